@@ -1,0 +1,95 @@
+-- Decoding: the header's checks in document 01's order, then the body from left to right.
+use Prim.Native.Nat.{ℕ, _+_}
+use mathlib.Core.Bool.{Bool, true, false, cond}
+use mathlib.Core.List.{List, [], _∷_}
+use mathlib.Core.Option.{Option, some, none}
+use lib.Dec.{ltb, eqb}
+use lib.IntN.{ℤ, pos, negsuc}
+use lib.ListN.{length, take}
+use Rattle.protocol.specs.declared.Body as B
+use Rattle.protocol.specs.declared.Body.{Body}
+use Rattle.protocol.specs.declared.Decoded as D
+use Rattle.protocol.specs.declared.Decoded.{Decoded}
+use Rattle.protocol.specs.declared.Message.{Message}
+use Rattle.protocol.specs.declared.Rules.{Rules}
+use Rattle.protocol.specs.Bytes.{numberAt, signedOf}
+use Rattle.protocol.specs.Each.{Each}
+use Rattle.protocol.specs.Fields.{Slot}
+use Rattle.protocol.specs.Kinds.{Envelope, typed, untyped, bare, Kind, Mode, modeOf, kindIn}
+use Rattle.protocol.specs.Reading.{Read, got, bad, andThen, read, readEach}
+use Rattle.protocol.specs.Refusals.{modeUnknown, typeUnknown, lengthTooSmall, lengthAboveLimit, bytesLeft}
+
+-- ---- the header
+
+-- need-more, a refusal's number and place, or a whole frame: its kind, where its body starts and where it ends
+pub data Header : Type 0 where
+  more : Header
+  refuse : ℕ → ℕ → Header
+  framed : Kind → ℕ → ℕ → Header
+
+-- the length's checks. The length word stands at p, and counts itself and all that follows it
+unfoldable pub lengthBy : Kind → ℕ → ℕ → List ℕ → ℤ → Header
+lengthBy k p start s (negsuc n) = refuse lengthTooSmall p
+lengthBy k p start s (pos n) =
+    cond (ltb n (k .smallest)) (refuse lengthTooSmall p)
+    (cond (ltb (k .limit) n) (refuse lengthAboveLimit p)
+    (cond (ltb (length s) (p + n)) more (framed k start (p + n))))
+
+-- modes 0 and 1: type byte, length, body
+unfoldable pub typedBy : Option Kind → List ℕ → Header
+typedBy none s = refuse typeUnknown 0
+typedBy (some k) s = cond (ltb (length s) 5) more (lengthBy k 1 5 s (signedOf 4 (numberAt 4 s 1)))
+
+-- mode 2: length, code, body
+unfoldable pub untypedBy : Option Kind → List ℕ → Header
+untypedBy none s = refuse typeUnknown 4
+untypedBy (some k) s = lengthBy k 0 8 s (signedOf 4 (numberAt 4 s 0))
+
+-- modes 3 and 4: one byte
+unfoldable pub bareBy : Option Kind → Header
+bareBy none = refuse typeUnknown 0
+bareBy (some k) = framed k 1 1
+
+-- kind says which kind a type byte, code or answer byte is, if any
+unfoldable pub headerIn : Envelope → (ℕ → Option Kind) → List ℕ → Header
+headerIn typed kind s = cond (eqb (length s) 0) more (typedBy (kind (numberAt 1 s 0)) s)
+headerIn untyped kind s = cond (ltb (length s) 8) more (untypedBy (kind (numberAt 4 s 4)) s)
+headerIn bare kind s = cond (eqb (length s) 0) more (bareBy (kind (numberAt 1 s 0)))
+
+unfoldable pub headerBy : Option Mode → List ℕ → Header
+headerBy none s = refuse modeUnknown 0
+headerBy (some m) s = headerIn (m .envelope) (kindIn m) s
+
+unfoldable pub headerOf : Rules → List ℕ → Header
+headerOf rules s = headerBy (modeOf rules) s
+
+-- ---- the body
+
+-- after the last field: bytes left over are refused
+unfoldable pub closed : {X : Type 0} → List ℕ → ℕ → X → Read X
+closed f p x = cond (ltb p (length f)) (bad bytesLeft p) (got x p)
+
+-- the body of a whole frame f from p on, and what is made of its slots
+abbrev pub readBody : {X : Type 0} → Rules → (k : Kind) → (Each Slot (k .body) → X) → List ℕ → ℕ → Read X
+readBody rules k make f p = andThen (readEach (read rules) (k .body) f p) (λ slots q. closed f q (make slots))
+
+abbrev pub bodyBy : Read Message → Body
+bodyBy (got m p) = B.the-variants.Is m
+bodyBy (bad number place) = B.the-variants.Refused number place
+
+abbrev pub bodyOf : Rules → Kind → List ℕ → ℕ → Body
+bodyOf rules k f p = bodyBy (readBody rules k (k .message) f p)
+
+-- ---- both
+
+unfoldable pub decodedBy : Body → ℕ → Decoded
+decodedBy (B.the-variants.Is m) end = D.the-variants.Record m end
+decodedBy (B.the-variants.Refused number place) end = D.the-variants.Refused number place
+
+unfoldable pub decodeBy : Rules → List ℕ → Header → Decoded
+decodeBy rules s more = D.the-variants.NeedMore
+decodeBy rules s (refuse number place) = D.the-variants.Refused number place
+decodeBy rules s (framed k start end) = decodedBy (bodyOf rules k (take end s) start) end
+
+unfoldable pub decodeOf : Rules → List ℕ → Decoded
+decodeOf rules s = decodeBy rules s (headerOf rules s)

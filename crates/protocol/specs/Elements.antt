@@ -1,0 +1,68 @@
+-- Elements: which lists a kind has, and what an element call answers.
+use Prim.Native.Nat.{ℕ, zero, suc}
+use mathlib.Core.Bool.{Bool, true, false, cond}
+use mathlib.Core.List.{List, [], _∷_}
+use mathlib.Core.Option.{Option, some, none}
+use lib.Dec.{ltb}
+use lib.ListN.{take}
+use Rattle.protocol.specs.declared.Element as E
+use Rattle.protocol.specs.declared.Element.{Element}
+use Rattle.protocol.specs.declared.List.{List as ListSlot}
+use Rattle.protocol.specs.declared.Rules.{Rules}
+use Rattle.protocol.specs.Bytes.{partOf}
+use Rattle.protocol.specs.Each.{Each}
+use Rattle.protocol.specs.Fields.{AtomSlot, Item, Field, one, counted, ended, Slot}
+use Rattle.protocol.specs.Reading.{Read, got, bad, andThen, readItem, passItems}
+use Rattle.protocol.specs.Refusals.{noSuchElement}
+use Rattle.protocol.specs.Decode.{Header, more, refuse, framed, headerOf, readBody}
+
+-- a list of a frame: the sort of its items, where it starts and how many it has
+pub record Listed : Type 0 where
+  pub item : Item
+  pub list : ListSlot
+
+-- a body's lists from left to right are its lists 0, 1, ..
+unfoldable pub listIn : (xs : List Field) → ℕ → Each Slot xs → Option Listed
+listIn [] l s = none
+listIn (one a ∷ xs) l s = listIn xs l (s .1)
+listIn (counted k i ∷ xs) zero s = some (record { item = i; list = s .0 })
+listIn (counted k i ∷ xs) (suc l) s = listIn xs l (s .1)
+listIn (ended i ∷ xs) zero s = some (record { item = i; list = s .0 })
+listIn (ended i ∷ xs) (suc l) s = listIn xs l (s .1)
+
+-- item n of those that stand from p on
+abbrev pub readItemAt : Rules → (i : Item) → ℕ → List ℕ → ℕ → Read (Each AtomSlot (i .atoms))
+readItemAt rules i n f p = andThen (passItems rules i n f p) (λ _ q. readItem rules i f q)
+
+unfoldable pub elementBy : {X : Type 0} → (X → Element) → Read X → Element
+elementBy element (got x next) = element x
+elementBy element (bad number place) = E.the-variants.Refused number place
+
+-- element n of a list, if there is the list and it has so many
+unfoldable pub elementAt : Rules → List ℕ → ℕ → Option Listed → Element
+elementAt rules f n none = E.the-variants.Refused noSuchElement 0
+elementAt rules f n (some l) =
+    cond (ltb n (l .list .count)) (elementBy (l .item .element) (readItemAt rules (l .item) n f (l .list .start)))
+    (E.the-variants.Refused noSuchElement 0)
+
+-- decode's own refusal or need-more first
+unfoldable pub elementIn : Rules → List ℕ → ℕ → ℕ → Header → Element
+elementIn rules s l n more = E.the-variants.NeedMore
+elementIn rules s l n (refuse number place) = E.the-variants.Refused number place
+elementIn rules s l n (framed k start end) =
+    elementBy (elementAt rules (take end s) n) (readBody rules k (listIn (k .body) l) (take end s) start)
+
+-- element n of list l of the frame at the buffer's start
+unfoldable pub elementOf : Rules → List ℕ → ℕ → ℕ → Element
+elementOf rules s l n = elementIn rules s l n (headerOf rules s)
+
+-- the second form: a value's own bytes, or the stand-in for NULL; where there is no value, the empty start of the stand-in
+unfoldable pub valueOr : List ℕ → List ℕ → Element → List ℕ
+valueOr s stand (E.the-variants.Value v) = partOf s (v .start) (v .len)
+valueOr s stand E.the-variants.Null = stand
+valueOr s stand (E.the-variants.Oid n) = []
+valueOr s stand (E.the-variants.Format z) = []
+valueOr s stand (E.the-variants.Field d) = []
+valueOr s stand (E.the-variants.ErrorField c t) = []
+valueOr s stand E.the-variants.NeedMore = []
+valueOr s stand (E.the-variants.Refused number place) = []

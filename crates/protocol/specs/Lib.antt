@@ -1,0 +1,11 @@
+pub mod Bytes
+pub mod Refusals
+pub mod Each
+pub mod Fields
+pub mod Reading
+pub mod Kinds
+pub mod WellFormed
+pub mod Decode
+pub mod Elements
+pub mod Encode
+pub mod Answers

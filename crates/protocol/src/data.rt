@@ -1,0 +1,39 @@
+// The messages that describe and carry rows, as in data.rs.
+use crate::List;
+use crate::Span;
+
+pub const MESSAGE_TYPE_BYTE_ROW_DESCRITION: u8 = b'T';
+
+pub const MESSAGE_TYPE_BYTE_PARAMETER_DESCRITION: u8 = b't';
+
+pub const MESSAGE_TYPE_BYTE_DATA_ROW: u8 = b'D';
+
+pub const MESSAGE_TYPE_BYTE_NO_DATA: u8 = b'n';
+
+pub const FORMAT_CODE_TEXT: i16 = 0;
+
+pub const FORMAT_CODE_BINARY: i16 = 1;
+
+// One field of a RowDescription. Decoded, its name stands in the frame; for encoding, in the lent run of name bytes.
+pub struct FieldDescription {
+    pub name: Span,
+    pub table_id: i32,
+    pub column_id: i16,
+    pub type_id: u32,
+    pub type_size: i16,
+    pub type_modifier: i32,
+    pub format_code: i16,
+}
+
+pub struct RowDescription {
+    pub fields: List,
+}
+
+pub struct ParameterDescription {
+    pub types: List,
+}
+
+// The Rust's data and field_count are the list's start and count.
+pub struct DataRow {
+    pub data: List,
+}

@@ -1,0 +1,59 @@
+// The extended query messages, as in extendedquery.rs.
+use crate::List;
+use crate::Span;
+
+pub const MESSAGE_TYPE_BYTE_PARSE: u8 = b'P';
+
+pub const MESSAGE_TYPE_BYTE_PARSE_COMPLETE: u8 = b'1';
+
+pub const MESSAGE_TYPE_BYTE_CLOSE: u8 = b'C';
+
+pub const MESSAGE_TYPE_BYTE_CLOSE_COMPLETE: u8 = b'3';
+
+pub const MESSAGE_TYPE_BYTE_BIND: u8 = b'B';
+
+pub const MESSAGE_TYPE_BYTE_BIND_COMPLETE: u8 = b'2';
+
+pub const MESSAGE_TYPE_BYTE_DESCRIBE: u8 = b'D';
+
+pub const MESSAGE_TYPE_BYTE_EXECUTE: u8 = b'E';
+
+pub const MESSAGE_TYPE_BYTE_FLUSH: u8 = b'H';
+
+pub const MESSAGE_TYPE_BYTE_SYNC: u8 = b'S';
+
+pub const MESSAGE_TYPE_BYTE_PORTAL_SUSPENDED: u8 = b's';
+
+// What Close and Describe aim at: a prepared statement or a portal.
+pub const TARGET_TYPE_BYTE_STATEMENT: u8 = b'S';
+
+pub const TARGET_TYPE_BYTE_PORTAL: u8 = b'P';
+
+pub struct Parse {
+    pub name: Span,
+    pub query: Span,
+    pub type_oids: List,
+}
+
+pub struct Bind {
+    pub portal_name: Span,
+    pub statement_name: Span,
+    pub parameter_format_codes: List,
+    pub parameters: List,
+    pub result_column_format_codes: List,
+}
+
+pub struct Close {
+    pub target_type: u8,
+    pub name: Span,
+}
+
+pub struct Describe {
+    pub target_type: u8,
+    pub name: Span,
+}
+
+pub struct Execute {
+    pub name: Span,
+    pub max_rows: i32,
+}

@@ -1,0 +1,72 @@
+// The general responses, as in response.rs.
+use crate::List;
+use crate::Span;
+
+pub const MESSAGE_TYPE_BYTE_COMMAND_COMPLETE: u8 = b'C';
+
+pub const MESSAGE_TYPE_BYTE_EMPTY_QUERY_RESPONSE: u8 = b'I';
+
+pub const MESSAGE_TYPE_BYTE_READY_FOR_QUERY: u8 = b'Z';
+
+pub const MESSAGE_TYPE_BYTE_ERROR_RESPONSE: u8 = b'E';
+
+pub const MESSAGE_TYPE_BYTE_NOTICE_RESPONSE: u8 = b'N';
+
+pub const MESSAGE_TYPE_BYTE_NOTIFICATION_RESPONSE: u8 = b'A';
+
+// The three states of a transaction.
+pub const READY_STATUS_IDLE: u8 = b'I';
+
+pub const READY_STATUS_TRANSACTION_BLOCK: u8 = b'T';
+
+pub const READY_STATUS_FAILED_TRANSACTION_BLOCK: u8 = b'E';
+
+pub struct CommandComplete {
+    pub tag: Span,
+}
+
+pub struct ReadyForQuery {
+    pub status: u8,
+}
+
+pub struct ErrorResponse {
+    pub fields: List,
+}
+
+pub struct NoticeResponse {
+    pub fields: List,
+}
+
+pub struct NotificationResponse {
+    pub pid: i32,
+    pub channel: Span,
+    pub payload: Span,
+}
+
+// The answer to a request for TLS: one byte and nothing else.
+pub enum SslResponse {
+    Accept,
+    Refuse,
+}
+
+impl SslResponse {
+    pub const BYTE_ACCEPT: u8 = b'S';
+
+    pub const BYTE_REFUSE: u8 = b'N';
+
+    pub const MESSAGE_LENGTH: usize = 1;
+}
+
+// The answer to a request for GSS encryption: one byte and nothing else.
+pub enum GssEncResponse {
+    Accept,
+    Refuse,
+}
+
+impl GssEncResponse {
+    pub const BYTE_ACCEPT: u8 = b'G';
+
+    pub const BYTE_REFUSE: u8 = b'N';
+
+    pub const MESSAGE_LENGTH: usize = 1;
+}
