@@ -6,7 +6,7 @@ use mathlib.Core.Option.{Option, some, none}
 use mathlib.Core.Path.{_≡_, refl, ap, sym}
 use borrow.Author.Tests.{ne-eqb}
 use lib.Dec.{eqb}
-use Rattle.protocol.specs.declared.kinds.Bounds as Bd
+use Rattle.protocol.specs.declared.kinds.Bounds.the-variants as Bd
 use Rattle.protocol.specs.Kinds.{Kind, Mode, find, kindIn, boundsBy}
 
 -- t is none of some keys, as the last arm of a `match` knows it: the last key outermost
@@ -34,6 +34,6 @@ pub arm : (m : Mode) {t n : ℕ} → t ≡ n → boundsBy (kindIn m n) ≡ bound
 arm m e = ap (λ (t : ℕ). boundsBy (kindIn m t)) (sym e)
 
 -- and its last arm is no row
-pub no-arm : (m : Mode) (t : ℕ) → Apart t (keysOnto tagOf (m .kinds) []) → Bd.the-variants.NoKind ≡ boundsBy (kindIn m t)
+pub no-arm : (m : Mode) (t : ℕ) → Apart t (keysOnto tagOf (m .kinds) []) → Bd.NoKind ≡ boundsBy (kindIn m t)
 unfolding kindIn boundsBy
 no-arm m t h = sym (ap boundsBy (find-apart tagOf t (m .kinds) [] h .0))

@@ -1,1 +1,3 @@
 pub mod Find
+pub mod Numbers
+pub mod Counts

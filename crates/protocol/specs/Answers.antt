@@ -4,11 +4,11 @@ use Prim.Native.Nat.{ℕ}
 use mathlib.Core.Bool.{Bool, true, false}
 use mathlib.Core.Option.{Option, some, none}
 use lib.IntN.{ℤ}
-use Rattle.protocol.specs.declared.Decoded as D
+use Rattle.protocol.specs.declared.Decoded.the-variants as D
 use Rattle.protocol.specs.declared.Decoded.{Decoded}
-use Rattle.protocol.specs.declared.Element as E
+use Rattle.protocol.specs.declared.Element.the-variants as E
 use Rattle.protocol.specs.declared.Element.{Element}
-use Rattle.protocol.specs.declared.Encoded as N
+use Rattle.protocol.specs.declared.Encoded.the-variants as N
 use Rattle.protocol.specs.declared.Encoded.{Encoded}
 use Rattle.protocol.specs.declared.Message.{Message}
 
@@ -30,22 +30,22 @@ refusal number place = record { needMore = false; number = number; place = place
 
 -- decoding: the record and the bytes consumed
 unfoldable pub ofDecoded : Decoded → Answer Message
-ofDecoded (D.the-variants.Record m n) = success m n
-ofDecoded D.the-variants.NeedMore = needsMore
-ofDecoded (D.the-variants.Refused number place) = refusal number place
+ofDecoded (D.Record m n) = success m n
+ofDecoded D.NeedMore = needsMore
+ofDecoded (D.Refused number place) = refusal number place
 
 -- an element call: the element; it consumes nothing
 unfoldable pub ofElement : Element → Answer Element
-ofElement (E.the-variants.Oid n) = success (E.the-variants.Oid n) 0
-ofElement (E.the-variants.Format z) = success (E.the-variants.Format z) 0
-ofElement E.the-variants.Null = success E.the-variants.Null 0
-ofElement (E.the-variants.Value s) = success (E.the-variants.Value s) 0
-ofElement (E.the-variants.Field d) = success (E.the-variants.Field d) 0
-ofElement (E.the-variants.ErrorField c s) = success (E.the-variants.ErrorField c s) 0
-ofElement E.the-variants.NeedMore = needsMore
-ofElement (E.the-variants.Refused number place) = refusal number place
+ofElement (E.Oid n) = success (E.Oid n) 0
+ofElement (E.Format z) = success (E.Format z) 0
+ofElement E.Null = success E.Null 0
+ofElement (E.Value s) = success (E.Value s) 0
+ofElement (E.Field d) = success (E.Field d) 0
+ofElement (E.ErrorField c s) = success (E.ErrorField c s) 0
+ofElement E.NeedMore = needsMore
+ofElement (E.Refused number place) = refusal number place
 
 -- encoding: the bytes written; it hands nothing back
 unfoldable pub ofEncoded : Encoded → Answer (Unit {0})
-ofEncoded (N.the-variants.Done n) = success tt n
-ofEncoded (N.the-variants.Refused number place) = refusal number place
+ofEncoded (N.Done n) = success tt n
+ofEncoded (N.Refused number place) = refusal number place

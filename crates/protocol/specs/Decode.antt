@@ -6,9 +6,9 @@ use mathlib.Core.Option.{Option, some, none}
 use lib.Dec.{ltb, eqb}
 use lib.IntN.{ℤ, pos, negsuc}
 use lib.ListN.{length, take}
-use Rattle.protocol.specs.declared.Body as B
+use Rattle.protocol.specs.declared.Body.the-variants as B
 use Rattle.protocol.specs.declared.Body.{Body}
-use Rattle.protocol.specs.declared.Decoded as D
+use Rattle.protocol.specs.declared.Decoded.the-variants as D
 use Rattle.protocol.specs.declared.Decoded.{Decoded}
 use Rattle.protocol.specs.declared.Message.{Message}
 use Rattle.protocol.specs.declared.Rules.{Rules}
@@ -74,8 +74,8 @@ abbrev pub readBody : {X : Type 0} → Rules → (k : Kind) → (Each Slot (k .b
 readBody rules k make f p = andThen (readEach (read rules) (k .body) f p) (λ slots q. closed f q (make slots))
 
 abbrev pub bodyBy : Read Message → Body
-bodyBy (got m p) = B.the-variants.Is m
-bodyBy (bad number place) = B.the-variants.Refused number place
+bodyBy (got m p) = B.Is m
+bodyBy (bad number place) = B.Refused number place
 
 abbrev pub bodyOf : Rules → Kind → List ℕ → ℕ → Body
 bodyOf rules k f p = bodyBy (readBody rules k (k .message) f p)
@@ -83,12 +83,12 @@ bodyOf rules k f p = bodyBy (readBody rules k (k .message) f p)
 -- ---- both
 
 unfoldable pub decodedBy : Body → ℕ → Decoded
-decodedBy (B.the-variants.Is m) end = D.the-variants.Record m end
-decodedBy (B.the-variants.Refused number place) end = D.the-variants.Refused number place
+decodedBy (B.Is m) end = D.Record m end
+decodedBy (B.Refused number place) end = D.Refused number place
 
 unfoldable pub decodeBy : Rules → List ℕ → Header → Decoded
-decodeBy rules s more = D.the-variants.NeedMore
-decodeBy rules s (refuse number place) = D.the-variants.Refused number place
+decodeBy rules s more = D.NeedMore
+decodeBy rules s (refuse number place) = D.Refused number place
 decodeBy rules s (framed k start end) = decodedBy (bodyOf rules k (take end s) start) end
 
 unfoldable pub decodeOf : Rules → List ℕ → Decoded

@@ -5,7 +5,7 @@ use mathlib.Core.List.{List, [], _∷_}
 use mathlib.Core.Option.{Option, some, none}
 use lib.Dec.{ltb}
 use lib.ListN.{take}
-use Rattle.protocol.specs.declared.Element as E
+use Rattle.protocol.specs.declared.Element.the-variants as E
 use Rattle.protocol.specs.declared.Element.{Element}
 use Rattle.protocol.specs.declared.List.{List as ListSlot}
 use Rattle.protocol.specs.declared.Rules.{Rules}
@@ -36,19 +36,19 @@ readItemAt rules i n f p = andThen (passItems rules i n f p) (λ _ q. readItem r
 
 unfoldable pub elementBy : {X : Type 0} → (X → Element) → Read X → Element
 elementBy element (got x next) = element x
-elementBy element (bad number place) = E.the-variants.Refused number place
+elementBy element (bad number place) = E.Refused number place
 
 -- element n of a list, if there is the list and it has so many
 unfoldable pub elementAt : Rules → List ℕ → ℕ → Option Listed → Element
-elementAt rules f n none = E.the-variants.Refused noSuchElement 0
+elementAt rules f n none = E.Refused noSuchElement 0
 elementAt rules f n (some l) =
     cond (ltb n (l .list .count)) (elementBy (l .item .element) (readItemAt rules (l .item) n f (l .list .start)))
-    (E.the-variants.Refused noSuchElement 0)
+    (E.Refused noSuchElement 0)
 
 -- decode's own refusal or need-more first
 unfoldable pub elementIn : Rules → List ℕ → ℕ → ℕ → Header → Element
-elementIn rules s l n more = E.the-variants.NeedMore
-elementIn rules s l n (refuse number place) = E.the-variants.Refused number place
+elementIn rules s l n more = E.NeedMore
+elementIn rules s l n (refuse number place) = E.Refused number place
 elementIn rules s l n (framed k start end) =
     elementBy (elementAt rules (take end s) n) (readBody rules k (listIn (k .body) l) (take end s) start)
 
@@ -58,11 +58,11 @@ elementOf rules s l n = elementIn rules s l n (headerOf rules s)
 
 -- the second form: a value's own bytes, or the stand-in for NULL; where there is no value, the empty start of the stand-in
 unfoldable pub valueOr : List ℕ → List ℕ → Element → List ℕ
-valueOr s stand (E.the-variants.Value v) = partOf s (v .start) (v .len)
-valueOr s stand E.the-variants.Null = stand
-valueOr s stand (E.the-variants.Oid n) = []
-valueOr s stand (E.the-variants.Format z) = []
-valueOr s stand (E.the-variants.Field d) = []
-valueOr s stand (E.the-variants.ErrorField c t) = []
-valueOr s stand E.the-variants.NeedMore = []
-valueOr s stand (E.the-variants.Refused number place) = []
+valueOr s stand (E.Value v) = partOf s (v .start) (v .len)
+valueOr s stand E.Null = stand
+valueOr s stand (E.Oid n) = []
+valueOr s stand (E.Format z) = []
+valueOr s stand (E.Field d) = []
+valueOr s stand (E.ErrorField c t) = []
+valueOr s stand E.NeedMore = []
+valueOr s stand (E.Refused number place) = []

@@ -8,12 +8,14 @@ use mathlib.Core.Path.{_≡_}
 use lib.Dec.{leb, ltb}
 use lib.IntN.{ℤ, pos, negsuc}
 use lib.ListN.{length, take, drop}
-use Rattle.protocol.specs.declared.Encoded as N
+use Rattle.protocol.specs.declared.Encoded.the-variants as N
 use Rattle.protocol.specs.declared.Encoded.{Encoded}
 use Rattle.protocol.specs.declared.Rules.{Rules}
 use Rattle.protocol.specs.declared.data.FieldDescription.{FieldDescription}
-use Rattle.protocol.specs.declared.response.GssEncResponse as Gss
-use Rattle.protocol.specs.declared.response.SslResponse as Ssl
+use Rattle.protocol.specs.declared.response.GssEncResponse.{GssEncResponse}
+use Rattle.protocol.specs.declared.response.GssEncResponse.the-variants as Gss
+use Rattle.protocol.specs.declared.response.SslResponse.{SslResponse}
+use Rattle.protocol.specs.declared.response.SslResponse.the-variants as Ssl
 use Rattle.protocol.specs.Fields.{Item, ItemContent}
 use Rattle.protocol.specs.Kinds.{Kind, Mode, nullable, rowField, errorField, sslAccept, sslRefuse, gssAccept, gssRefuse}
 use Rattle.protocol.specs.Refusals.{lengthAboveLimit, outputTooShort, notRepresentable}
@@ -59,31 +61,31 @@ rowFieldsGiven (d ∷ ds) run =
     cond (leb (d .name .start + d .name .len) (length run)) (oneBefore (rowFieldGiven d run) (rowFieldsGiven ds run)) none
 
 -- an answer to a request for TLS or GSS encryption is a kind by itself
-abbrev pub sslKind : Ssl.SslResponse → Kind
-sslKind Ssl.the-variants.Accept = sslAccept
-sslKind Ssl.the-variants.Refuse = sslRefuse
+abbrev pub sslKind : SslResponse → Kind
+sslKind Ssl.Accept = sslAccept
+sslKind Ssl.Refuse = sslRefuse
 
-abbrev pub gssKind : Gss.GssEncResponse → Kind
-gssKind Gss.the-variants.Accept = gssAccept
-gssKind Gss.the-variants.Refuse = gssRefuse
+abbrev pub gssKind : GssEncResponse → Kind
+gssKind Gss.Accept = gssAccept
+gssKind Gss.Refuse = gssRefuse
 
 -- ---- the answer and the output
 
 -- refusal 10, then 4, then 9, each at place 0; else the size of what is written
 unfoldable pub encodedBy : Mode → (k : Kind) → Option (Contents k) → ℕ → Encoded
-encodedBy m k none room = N.the-variants.Refused notRepresentable 0
+encodedBy m k none room = N.Refused notRepresentable 0
 encodedBy m k (some c) room =
     cond (allAble (record { mode = m .mode }) k c)
-    (cond (ltb (k .limit) (lengthOf (m .envelope) (length (bodyBytes k c)))) (N.the-variants.Refused lengthAboveLimit 0)
-    (cond (ltb room (length (frame (m .envelope) k c))) (N.the-variants.Refused outputTooShort 0)
-    (N.the-variants.Done (length (frame (m .envelope) k c)))))
-    (N.the-variants.Refused notRepresentable 0)
+    (cond (ltb (k .limit) (lengthOf (m .envelope) (length (bodyBytes k c)))) (N.Refused lengthAboveLimit 0)
+    (cond (ltb room (length (frame (m .envelope) k c))) (N.Refused outputTooShort 0)
+    (N.Done (length (frame (m .envelope) k c)))))
+    (N.Refused notRepresentable 0)
 
 -- success writes the frame at the output's start and keeps every later byte; a refusal changes nothing
 unfoldable pub writtenBy : Mode → (k : Kind) → Option (Contents k) → Encoded → List ℕ → List ℕ
 writtenBy m k none r out = out
-writtenBy m k (some c) (N.the-variants.Done n) out = frame (m .envelope) k c ++ drop n out
-writtenBy m k (some c) (N.the-variants.Refused number place) out = out
+writtenBy m k (some c) (N.Done n) out = frame (m .envelope) k c ++ drop n out
+writtenBy m k (some c) (N.Refused number place) out = out
 
 -- what an encoder of the kind k in the mode m promises of its answer r, and of its output before and after
 pub record Encodes (m : Mode) (k : Kind) (given : Option (Contents k)) (out : List ℕ) (r : Encoded) (left : List ℕ) : Type 0 where

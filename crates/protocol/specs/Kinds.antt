@@ -5,16 +5,16 @@ use mathlib.Core.Bool.{Bool, true, false, cond}
 use mathlib.Core.List.{List, [], _∷_}
 use mathlib.Core.Option.{Option, some, none}
 use lib.Dec.{eqb}
-use Rattle.protocol.specs.declared.Element as E
+use Rattle.protocol.specs.declared.Element.the-variants as E
 use Rattle.protocol.specs.declared.Element.{Element}
-use Rattle.protocol.specs.declared.Message as M
+use Rattle.protocol.specs.declared.Message.the-variants.{Bind, BindComplete, CancelRequest, Close, CloseComplete, CommandComplete, CopyBothResponse, CopyData, CopyDone, CopyFail, CopyInResponse, CopyOutResponse, DataRow, Describe, EmptyQueryResponse, ErrorResponse, Execute, Flush, GssEncResponse, NoData, NoticeResponse, NotificationResponse, ParameterDescription, Parse, ParseComplete, PortalSuspended, ReadyForQuery, RowDescription, SslResponse, Sync}
 use Rattle.protocol.specs.declared.Message.{Message}
 use Rattle.protocol.specs.declared.Rules.{Rules}
 use Rattle.protocol.specs.declared.Span.{Span}
-use Rattle.protocol.specs.declared.kinds.Bounds as Bd
+use Rattle.protocol.specs.declared.kinds.Bounds.the-variants as Bd
 use Rattle.protocol.specs.declared.kinds.Bounds.{Bounds}
-use Rattle.protocol.specs.declared.response.GssEncResponse as Gss
-use Rattle.protocol.specs.declared.response.SslResponse as Ssl
+use Rattle.protocol.specs.declared.response.GssEncResponse.the-variants as Gss
+use Rattle.protocol.specs.declared.response.SslResponse.the-variants as Ssl
 use Rattle.protocol.specs.Each.{Each}
 use Rattle.protocol.specs.Fields.{Atom, unsigned, signed, oneOf, text, value, rest, Item, Count, signedCount, Field, one, counted, ended, Slot}
 
@@ -58,14 +58,14 @@ status = one (oneOf (code "I" ∷ code "T" ∷ code "E" ∷ []))
 
 -- a value's element: NULL, or where it stands
 unfoldable pub valueElement : Option Span → Element
-valueElement none = E.the-variants.Null
-valueElement (some s) = E.the-variants.Value s
+valueElement none = E.Null
+valueElement (some s) = E.Value s
 
 abbrev pub oid : Item
-oid = record { atoms = unsigned 4 ∷ []; element = λ s. E.the-variants.Oid (s .0) }
+oid = record { atoms = unsigned 4 ∷ []; element = λ s. E.Oid (s .0) }
 
 abbrev pub format : Item
-format = record { atoms = signed 2 ∷ []; element = λ s. E.the-variants.Format (s .0) }
+format = record { atoms = signed 2 ∷ []; element = λ s. E.Format (s .0) }
 
 abbrev pub nullable : Item
 nullable = record { atoms = value ∷ []; element = λ s. valueElement (s .0) }
@@ -74,7 +74,7 @@ nullable = record { atoms = value ∷ []; element = λ s. valueElement (s .0) }
 abbrev pub rowField : Item
 rowField = record {
   atoms = text ∷ signed 4 ∷ signed 2 ∷ unsigned 4 ∷ signed 2 ∷ signed 4 ∷ signed 2 ∷ [];
-  element = λ s. E.the-variants.Field (record {
+  element = λ s. E.Field (record {
     name = s .0;
     «table_id» = s .1 .0;
     «column_id» = s .1 .1 .0;
@@ -87,7 +87,7 @@ rowField = record {
 
 -- a code byte, a string
 abbrev pub errorField : Item
-errorField = record { atoms = unsigned 1 ∷ text ∷ []; element = λ s. E.the-variants.ErrorField (s .0) (s .1 .0) }
+errorField = record { atoms = unsigned 1 ∷ text ∷ []; element = λ s. E.ErrorField (s .0) (s .1 .0) }
 
 abbrev pub oids : Field
 oids = counted signedCount oid
@@ -102,11 +102,11 @@ values = counted signedCount nullable
 
 unfoldable pub parse : Kind
 parse = kind "P" 8 large (string ∷ string ∷ oids ∷ [])
-    (λ s. M.the-variants.Parse (record { name = s .0; query = s .1 .0; «type_oids» = s .1 .1 .0 }))
+    (λ s. Parse (record { name = s .0; query = s .1 .0; «type_oids» = s .1 .1 .0 }))
 
 unfoldable pub bind : Kind
 bind = kind "B" 12 large (string ∷ string ∷ formats ∷ values ∷ formats ∷ [])
-    (λ s. M.the-variants.Bind (record {
+    (λ s. Bind (record {
       «portal_name» = s .0;
       «statement_name» = s .1 .0;
       «parameter_format_codes» = s .1 .1 .0;
@@ -116,96 +116,96 @@ bind = kind "B" 12 large (string ∷ string ∷ formats ∷ values ∷ formats �
 
 unfoldable pub close : Kind
 close = kind "C" 6 small (target ∷ string ∷ [])
-    (λ s. M.the-variants.Close (record { «target_type» = s .0; name = s .1 .0 }))
+    (λ s. Close (record { «target_type» = s .0; name = s .1 .0 }))
 
 unfoldable pub describe : Kind
 describe = kind "D" 6 small (target ∷ string ∷ [])
-    (λ s. M.the-variants.Describe (record { «target_type» = s .0; name = s .1 .0 }))
+    (λ s. Describe (record { «target_type» = s .0; name = s .1 .0 }))
 
 unfoldable pub execute : Kind
 execute = kind "E" 9 small (string ∷ i32 ∷ [])
-    (λ s. M.the-variants.Execute (record { name = s .0; «max_rows» = s .1 .0 }))
+    (λ s. Execute (record { name = s .0; «max_rows» = s .1 .0 }))
 
 unfoldable pub flush : Kind
-flush = kind "H" 4 small [] (λ _. M.the-variants.Flush)
+flush = kind "H" 4 small [] (λ _. Flush)
 
 unfoldable pub sync : Kind
-sync = kind "S" 4 small [] (λ _. M.the-variants.Sync)
+sync = kind "S" 4 small [] (λ _. Sync)
 
 unfoldable pub copyDone : Kind
-copyDone = kind "c" 4 small [] (λ _. M.the-variants.CopyDone)
+copyDone = kind "c" 4 small [] (λ _. CopyDone)
 
 unfoldable pub copyData : Kind
 copyData = kind "d" 4 large (one rest ∷ [])
-    (λ s. M.the-variants.CopyData (record { «data» = s .0 }))
+    (λ s. CopyData (record { «data» = s .0 }))
 
 unfoldable pub copyFail : Kind
 copyFail = kind "f" 5 small (string ∷ [])
-    (λ s. M.the-variants.CopyFail (record { message = s .0 }))
+    (λ s. CopyFail (record { message = s .0 }))
 
 -- ---- backend, mode 1
 
 unfoldable pub parseComplete : Kind
-parseComplete = kind "1" 4 small [] (λ _. M.the-variants.ParseComplete)
+parseComplete = kind "1" 4 small [] (λ _. ParseComplete)
 
 unfoldable pub bindComplete : Kind
-bindComplete = kind "2" 4 small [] (λ _. M.the-variants.BindComplete)
+bindComplete = kind "2" 4 small [] (λ _. BindComplete)
 
 unfoldable pub closeComplete : Kind
-closeComplete = kind "3" 4 small [] (λ _. M.the-variants.CloseComplete)
+closeComplete = kind "3" 4 small [] (λ _. CloseComplete)
 
 unfoldable pub portalSuspended : Kind
-portalSuspended = kind "s" 4 small [] (λ _. M.the-variants.PortalSuspended)
+portalSuspended = kind "s" 4 small [] (λ _. PortalSuspended)
 
 unfoldable pub noData : Kind
-noData = kind "n" 4 small [] (λ _. M.the-variants.NoData)
+noData = kind "n" 4 small [] (λ _. NoData)
 
 unfoldable pub emptyQueryResponse : Kind
-emptyQueryResponse = kind "I" 4 small [] (λ _. M.the-variants.EmptyQueryResponse)
+emptyQueryResponse = kind "I" 4 small [] (λ _. EmptyQueryResponse)
 
 unfoldable pub rowDescription : Kind
 rowDescription = kind "T" 6 large (counted signedCount rowField ∷ [])
-    (λ s. M.the-variants.RowDescription (record { fields = s .0 }))
+    (λ s. RowDescription (record { fields = s .0 }))
 
 unfoldable pub parameterDescription : Kind
 parameterDescription = kind "t" 6 large (oids ∷ [])
-    (λ s. M.the-variants.ParameterDescription (record { types = s .0 }))
+    (λ s. ParameterDescription (record { types = s .0 }))
 
 unfoldable pub dataRow : Kind
 dataRow = kind "D" 6 large (values ∷ [])
-    (λ s. M.the-variants.DataRow (record { «data» = s .0 }))
+    (λ s. DataRow (record { «data» = s .0 }))
 
 unfoldable pub commandComplete : Kind
 commandComplete = kind "C" 5 small (string ∷ [])
-    (λ s. M.the-variants.CommandComplete (record { tag = s .0 }))
+    (λ s. CommandComplete (record { tag = s .0 }))
 
 unfoldable pub readyForQuery : Kind
 readyForQuery = kind "Z" 5 small (status ∷ [])
-    (λ s. M.the-variants.ReadyForQuery (record { status = s .0 }))
+    (λ s. ReadyForQuery (record { status = s .0 }))
 
 unfoldable pub errorResponse : Kind
 errorResponse = kind "E" 5 large (ended errorField ∷ [])
-    (λ s. M.the-variants.ErrorResponse (record { fields = s .0 }))
+    (λ s. ErrorResponse (record { fields = s .0 }))
 
 unfoldable pub noticeResponse : Kind
 noticeResponse = kind "N" 5 large (ended errorField ∷ [])
-    (λ s. M.the-variants.NoticeResponse (record { fields = s .0 }))
+    (λ s. NoticeResponse (record { fields = s .0 }))
 
 unfoldable pub copyInResponse : Kind
 copyInResponse = kind "G" 7 small (i8 ∷ formats ∷ [])
-    (λ s. M.the-variants.CopyInResponse (record { format = s .0; «column_formats» = s .1 .0 }))
+    (λ s. CopyInResponse (record { format = s .0; «column_formats» = s .1 .0 }))
 
 unfoldable pub copyOutResponse : Kind
 copyOutResponse = kind "H" 7 small (i8 ∷ formats ∷ [])
-    (λ s. M.the-variants.CopyOutResponse (record { format = s .0; «column_formats» = s .1 .0 }))
+    (λ s. CopyOutResponse (record { format = s .0; «column_formats» = s .1 .0 }))
 
 unfoldable pub copyBothResponse : Kind
 copyBothResponse = kind "W" 7 small (i8 ∷ formats ∷ [])
-    (λ s. M.the-variants.CopyBothResponse (record { format = s .0; «column_formats» = s .1 .0 }))
+    (λ s. CopyBothResponse (record { format = s .0; «column_formats» = s .1 .0 }))
 
 unfoldable pub notificationResponse : Kind
 notificationResponse = kind "A" 10 large (i32 ∷ string ∷ string ∷ [])
-    (λ s. M.the-variants.NotificationResponse (record { pid = s .0; channel = s .1 .0; payload = s .1 .1 .0 }))
+    (λ s. NotificationResponse (record { pid = s .0; channel = s .1 .0; payload = s .1 .1 .0 }))
 
 -- ---- cancel request, mode 2: the length counts itself, the code and the body
 
@@ -215,22 +215,22 @@ cancelRequest = record {
   smallest = 16;
   limit = small;
   body = i32 ∷ i32 ∷ [];
-  message = λ s. M.the-variants.CancelRequest (record { pid = s .0; «secret_key» = s .1 .0 });
+  message = λ s. CancelRequest (record { pid = s .0; «secret_key» = s .1 .0 });
 }
 
 -- ---- TLS and GSS answers, modes 3 and 4: one byte
 
 unfoldable pub sslAccept : Kind
-sslAccept = kind "S" 1 1 [] (λ _. M.the-variants.SslResponse Ssl.the-variants.Accept)
+sslAccept = kind "S" 1 1 [] (λ _. SslResponse Ssl.Accept)
 
 unfoldable pub sslRefuse : Kind
-sslRefuse = kind "N" 1 1 [] (λ _. M.the-variants.SslResponse Ssl.the-variants.Refuse)
+sslRefuse = kind "N" 1 1 [] (λ _. SslResponse Ssl.Refuse)
 
 unfoldable pub gssAccept : Kind
-gssAccept = kind "G" 1 1 [] (λ _. M.the-variants.GssEncResponse Gss.the-variants.Accept)
+gssAccept = kind "G" 1 1 [] (λ _. GssEncResponse Gss.Accept)
 
 unfoldable pub gssRefuse : Kind
-gssRefuse = kind "N" 1 1 [] (λ _. M.the-variants.GssEncResponse Gss.the-variants.Refuse)
+gssRefuse = kind "N" 1 1 [] (λ _. GssEncResponse Gss.Refuse)
 
 -- ---- modes
 
@@ -292,8 +292,8 @@ kindOf rules tag = kindBy (modeOf rules) tag
 
 -- its smallest length and its limit
 unfoldable pub boundsBy : Option Kind → Bounds
-boundsBy none = Bd.the-variants.NoKind
-boundsBy (some k) = Bd.the-variants.Between (k .smallest) (k .limit)
+boundsBy none = Bd.NoKind
+boundsBy (some k) = Bd.Between (k .smallest) (k .limit)
 
 unfoldable pub boundsOf : Rules → ℕ → Bounds
 boundsOf rules tag = boundsBy (kindOf rules tag)

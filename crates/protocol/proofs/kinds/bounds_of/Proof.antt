@@ -8,7 +8,7 @@ use borrow.Author.Tests.{ne-eqb}
 use native.Mathlib.Omega.{arith}
 use lib.Dec.{eqb}
 use Rattle.protocol.specs.declared.Rules.{Rules}
-use Rattle.protocol.specs.declared.kinds.Bounds as Bd
+use Rattle.protocol.specs.declared.kinds.Bounds.the-variants as Bd
 use Rattle.protocol.specs.Kinds.{Mode, modes, find, modeOf, kindIn, kindBy, kindOf, boundsBy, boundsOf, frontend, backend, cancel, tlsAnswer, gssAnswer, cancelRequest}
 use Rattle.protocol.proofs.kinds.bounds_of.Statement.{statement}
 use Rattle.protocol.proofs.kinds.bounds_of.Tie as tie
@@ -19,7 +19,7 @@ unfolding boundsOf kindOf modeOf
 known rules t e = ap (λ (n : ℕ). boundsBy (kindBy (find (λ (m : Mode). m .mode) n modes) t)) (sym e)
 
 -- mode 2, or no mode
-unknown : (t : ℕ) (b : Bool) → t < 256 → Bd.the-variants.NoKind ≡ boundsBy (kindBy (cond b (some cancel) none) t)
+unknown : (t : ℕ) (b : Bool) → t < 256 → Bd.NoKind ≡ boundsBy (kindBy (cond b (some cancel) none) t)
 unfolding boundsBy kindBy kindIn find cancel cancelRequest
 unknown t true h = rw (ne-eqb t 80877102 (omega arith)) refl
 unknown t false h = refl

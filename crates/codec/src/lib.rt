@@ -1,0 +1,281 @@
+// The cursor over one frame, as codec.rs reads a buffer: it goes in by value and comes back advanced, or the answer is a fault.
+// The frame ends where the lent slice ends, so nothing past it can be read.
+ghost use Prim.Native.Nat.{_<_};
+ghost use mathlib.Core.Path.{_≡_};
+ghost use Rattle.protocol.specs.Bytes.{signedOf};
+ghost use Rattle.protocol.specs.Fields.{signedCount, text};
+ghost use Rattle.protocol.specs.Kinds.{formats, nullable, oids, values};
+ghost use Rattle.protocol.specs.Reading.{passItems, read, readAtom, readCount, readNumber, readValue};
+ghost use Rattle.codec.specs.Answers.{byteRead, halfRead, listedRead, passedRead, textRead, valueRead, wordRead};
+ghost use Rattle.codec.specs.Fixed.{readFixed};
+use protocol::List;
+use protocol::Rules;
+use protocol::Span;
+use protocol::refusal::BAD_COUNT;
+use protocol::refusal::CUT;
+use protocol::refusal::NOT_ALLOWED;
+
+pub struct Cursor {
+    pub at: usize,
+}
+
+// Each step answers the field with the next cursor, or the fault. The fault's place is where the field begins.
+pub enum Byte {
+    Is(u8, Cursor),
+    Cut,
+}
+
+pub enum Half {
+    Is(u16, Cursor),
+    Cut,
+}
+
+pub enum Word {
+    Is(u32, Cursor),
+    Cut,
+}
+
+// A missing zero byte is a cut string, never an empty one.
+pub enum Text {
+    Is(Span, Cursor),
+    Cut,
+}
+
+pub enum Value {
+    Is(Span, Cursor),
+    Null(Cursor),
+    Cut,
+    BelowNull,
+}
+
+// A list's faults are several, so they come with number and place.
+pub enum Listed {
+    Is(List, Cursor),
+    Refused(u8, usize),
+}
+
+// A number of 1, 2 or 4 bytes, read as a signed one in two's complement.
+pub fn signed8(x: u8) -> i8
+    ensures { λ r. ⌜ r ≡ signedOf 1 x ⌝ }
+{
+    if x < 128 {
+        x as i8
+    } else {
+        -1 - ((255 - x) as i8)
+    }
+}
+
+pub fn signed16(x: u16) -> i16
+    ensures { λ r. ⌜ r ≡ signedOf 2 x ⌝ }
+{
+    if x < 32768 {
+        x as i16
+    } else {
+        -1 - ((65535 - x) as i16)
+    }
+}
+
+pub fn signed32(x: u32) -> i32
+    ensures { λ r. ⌜ r ≡ signedOf 4 x ⌝ }
+{
+    if x < 2147483648 {
+        x as i32
+    } else {
+        -1 - ((4294967295 - x) as i32)
+    }
+}
+
+// Past some elements, or the first one's fault.
+pub enum Passed {
+    To(Cursor),
+    Refused(u8, usize),
+}
+
+fn wide(x: u8) -> u32
+    ensures { λ r. ⌜ (r ≡ x) × (r < 256) ⌝ }
+{
+    x as u32
+}
+
+impl Cursor {
+    pub fn byte(self, frame: &[u8]) -> Byte
+        ensures { λ r. ⌜ byteRead (self .at) r ≡ readNumber 1 (now (frame .entry)) (self .at) ⌝ }
+    {
+        let at = self.at;
+        if at < frame.len() {
+            Byte::Is(frame[at], Cursor { at: at + 1 })
+        } else {
+            Byte::Cut
+        }
+    }
+
+    pub fn half(self, frame: &[u8]) -> Half
+        ensures { λ r. ⌜ halfRead (self .at) r ≡ readNumber 2 (now (frame .entry)) (self .at) ⌝ }
+    {
+        let at = self.at;
+        if frame.len() <= at {
+            return Half::Cut;
+        }
+        if frame.len() - at < 2 {
+            return Half::Cut;
+        }
+        let a = wide(frame[at]);
+        let b = wide(frame[at + 1]);
+        Half::Is((a * 256 + b) as u16, Cursor { at: at + 2 })
+    }
+
+    pub fn word(self, frame: &[u8]) -> Word
+        ensures { λ r. ⌜ wordRead (self .at) r ≡ readNumber 4 (now (frame .entry)) (self .at) ⌝ }
+    {
+        let at = self.at;
+        if frame.len() <= at {
+            return Word::Cut;
+        }
+        if frame.len() - at < 4 {
+            return Word::Cut;
+        }
+        let a = wide(frame[at]);
+        let b = wide(frame[at + 1]);
+        let c = wide(frame[at + 2]);
+        let d = wide(frame[at + 3]);
+        Word::Is(
+            a * 16777216 + b * 65536 + c * 256 + d,
+            Cursor { at: at + 4 },
+        )
+    }
+
+    // A string, up to its zero byte. The rules say how texts are read.
+    pub fn text(self, rules: Rules, frame: &[u8]) -> Text
+        ensures { λ r. ⌜ textRead (self .at) r ≡ readAtom rules text (now (frame .entry)) (self .at) ⌝ }
+    {
+        let start = self.at;
+        let mut i = start;
+        while i < frame.len() {
+            if frame[i] == 0 {
+                return Text::Is(
+                    Span {
+                        start,
+                        len: i - start,
+                    },
+                    Cursor { at: i + 1 },
+                );
+            }
+            i += 1;
+        }
+        Text::Cut
+    }
+
+    // A value: a signed 32-bit length and that many bytes, or NULL.
+    pub fn value(self, frame: &[u8]) -> Value
+        ensures { λ r. ⌜ valueRead (self .at) r ≡ readValue (now (frame .entry)) (self .at) ⌝ }
+    {
+        let Word::Is(len, c) = self.word(frame) else {
+            return Value::Cut;
+        };
+        if len == 4294967295 {
+            return Value::Null(c);
+        }
+        if 2147483647 < len {
+            return Value::BelowNull;
+        }
+        let start = c.at;
+        let len = len as usize;
+        if frame.len() - start < len {
+            return Value::Cut;
+        }
+        Value::Is(Span { start, len }, Cursor { at: start + len })
+    }
+
+    // The count of a list whose elements have at least so many bytes each. The list starts after it.
+    pub fn count(self, frame: &[u8], least: u8) -> Listed
+        ensures { λ r. ⌜ listedRead r ≡ readCount signedCount least (now (frame .entry)) (self .at) ⌝ }
+    {
+        let at = self.at;
+        let Half::Is(count, c) = self.half(frame) else {
+            return Listed::Refused(CUT, at);
+        };
+        if 32767 < count {
+            return Listed::Refused(BAD_COUNT, at);
+        }
+        let start = c.at;
+        let count = count as usize;
+        if frame.len() - start < count * (least as usize) {
+            return Listed::Refused(BAD_COUNT, at);
+        }
+        Listed::Is(List { start, count }, c)
+    }
+
+    // A list whose elements have so many bytes each is passed by arithmetic.
+    fn fixed(self, frame: &[u8], size: u8) -> Listed
+        ensures { λ r. ⌜ listedRead r ≡ readFixed size (now (frame .entry)) (self .at) ⌝ }
+    {
+        let counted = self.count(frame, size);
+        let Listed::Is(list, c) = counted else {
+            return counted;
+        };
+        let start = c.at;
+        let count = list.count;
+        Listed::Is(
+            list,
+            Cursor {
+                at: start + count * (size as usize),
+            },
+        )
+    }
+
+    pub fn oids(self, rules: Rules, frame: &[u8]) -> Listed
+        ensures { λ r. ⌜ listedRead r ≡ read rules oids (now (frame .entry)) (self .at) ⌝ }
+    {
+        self.fixed(frame, 4)
+    }
+
+    pub fn formats(self, rules: Rules, frame: &[u8]) -> Listed
+        ensures { λ r. ⌜ listedRead r ≡ read rules formats (now (frame .entry)) (self .at) ⌝ }
+    {
+        self.fixed(frame, 2)
+    }
+
+    fn pass_value(self, rules: Rules, frame: &[u8]) -> Passed
+        ensures { λ r. ⌜ passedRead r ≡ passItems rules nullable 1 (now (frame .entry)) (self .at) ⌝ }
+    {
+        let at = self.at;
+        match self.value(frame) {
+            Value::Is(_, c) => Passed::To(c),
+            Value::Null(c) => Passed::To(c),
+            Value::Cut => Passed::Refused(CUT, at),
+            Value::BelowNull => Passed::Refused(NOT_ALLOWED, at),
+        }
+    }
+
+    fn pass_values(self, rules: Rules, frame: &[u8], count: usize) -> Passed
+        ensures { λ r. ⌜ passedRead r ≡ passItems rules nullable count (now (frame .entry)) (self .at) ⌝ }
+    {
+        let mut at = self.at;
+        let mut left = count;
+        while 0 < left {
+            let c = Cursor { at };
+            let passed = c.pass_value(rules, frame);
+            let Passed::To(next) = passed else {
+                return passed;
+            };
+            at = next.at;
+            left -= 1;
+        }
+        Passed::To(Cursor { at })
+    }
+
+    // Every value is checked.
+    pub fn values(self, rules: Rules, frame: &[u8]) -> Listed
+        ensures { λ r. ⌜ listedRead r ≡ read rules values (now (frame .entry)) (self .at) ⌝ }
+    {
+        let counted = self.count(frame, 4);
+        let Listed::Is(list, c) = counted else {
+            return counted;
+        };
+        let count = list.count;
+        match c.pass_values(rules, frame, count) {
+            Passed::To(c) => Listed::Is(list, c),
+            Passed::Refused(number, place) => Listed::Refused(number, place),
+        }
+    }
+}
