@@ -2,10 +2,11 @@
 // The frame ends where the lent slice ends, so nothing past it can be read.
 ghost use Prim.Native.Nat.{_<_};
 ghost use mathlib.Core.Path.{_≡_};
+ghost use lib.ListN.{length};
 ghost use Rattle.protocol.specs.Bytes.{signedOf};
 ghost use Rattle.protocol.specs.Fields.{signedCount, text};
 ghost use Rattle.protocol.specs.Kinds.{formats, nullable, oids, values};
-ghost use Rattle.protocol.specs.Reading.{passItems, read, readAtom, readCount, readNumber, readValue};
+ghost use Rattle.protocol.specs.Reading.{got, passItems, read, readAtom, readCount, readNumber, readRest, readValue};
 ghost use Rattle.codec.specs.Answers.{byteRead, halfRead, listedRead, passedRead, textRead, valueRead, wordRead};
 ghost use Rattle.codec.specs.Fixed.{readFixed};
 use protocol::List;
@@ -184,6 +185,22 @@ impl Cursor {
             return Value::Cut;
         }
         Value::Is(Span { start, len }, Cursor { at: start + len })
+    }
+
+    // All that is left of the frame. It has no fault, and ends where the frame ends.
+    pub fn rest(self, frame: &[u8]) -> Span
+        ensures { λ r. ⌜ got r (length (now (frame .entry))) ≡ readRest (now (frame .entry)) (self .at) ⌝ }
+    {
+        let start = self.at;
+        let end = frame.len();
+        if start < end {
+            Span {
+                start,
+                len: end - start,
+            }
+        } else {
+            Span { start, len: 0 }
+        }
     }
 
     // The count of a list whose elements have at least so many bytes each. The list starts after it.

@@ -1,13 +1,16 @@
 -- Finding a row of a table by its key.
 use Prim.Native.Nat.{ℕ}
-use mathlib.Core.Bool.{Bool, true, false, cond}
+use mathlib.Core.Bool.{Bool, true, false, cond, _&&_}
 use mathlib.Core.List.{List, [], _∷_}
 use mathlib.Core.Option.{Option, some, none}
 use mathlib.Core.Path.{_≡_, refl, ap, sym}
+use native.Mathlib.Omega.{arith}
 use borrow.Author.Tests.{ne-eqb}
-use lib.Dec.{eqb}
+use lib.Dec.{T, eqb}
+use Rattle.protocol.specs.declared.Rules.{Rules}
 use Rattle.protocol.specs.declared.kinds.Bounds.the-variants as Bd
-use Rattle.protocol.specs.Kinds.{Kind, Mode, find, kindIn, boundsBy}
+use Rattle.protocol.specs.Bytes.{isOneOf}
+use Rattle.protocol.specs.Kinds.{Kind, Mode, modes, find, modeOf, kindIn, boundsBy}
 
 -- t is none of some keys, as the last arm of a `match` knows it: the last key outermost
 abbrev pub Apart : ℕ → List ℕ → Type 0
@@ -26,6 +29,30 @@ module _ {A : Type 0} (key : A → ℕ) where
       let r = find-apart t xs (key x ∷ ks) h in
       (rw (ne-eqb t (key x) (r .1 .1)) (r .0), r .1 .0)
 
+-- a test that passes of each row passes of the one that is found
+abbrev pub every : {A : Type 0} → (A → Bool) → List A → Bool
+every test [] = true
+every test (x ∷ xs) = test x && every test xs
+
+and-left : (a b : Bool) → T (a && b) → T a
+and-left true b t = tt
+and-left false b t = t
+
+and-right : (a b : Bool) → T (a && b) → T b
+and-right true b t = t
+and-right false b t = absurd t
+
+module _ {A : Type 0} (key : A → ℕ) (test : A → Bool) where
+  every-by : (x : A) (xs : List A) (k : ℕ) (y : A) (t : Bool) → T (test x) → (find key k xs ≡ some y → T (test y)) → cond t (some x) (find key k xs) ≡ some y → T (test y)
+  every-by x xs k y true h ih e = let q : x ≡ y = cc in rw (← q) h
+  every-by x xs k y false h ih e = ih e
+
+  pub find-every : (xs : List A) (k : ℕ) (y : A) → T (every test xs) → find key k xs ≡ some y → T (test y)
+  unfolding find
+  find-every [] k y t e = let z : _≡_ {A = ℕ} 0 1 = cc in absurd (omega arith)
+  find-every (x ∷ xs) k y t e =
+      every-by x xs k y (eqb k (key x)) (and-left (test x) (every test xs) t) (λ h. find-every xs k y (and-right (test x) (every test xs) t) h) e
+
 abbrev pub tagOf : Kind → ℕ
 tagOf k = k .tag
 
@@ -34,6 +61,36 @@ pub arm : (m : Mode) {t n : ℕ} → t ≡ n → boundsBy (kindIn m n) ≡ bound
 arm m e = ap (λ (t : ℕ). boundsBy (kindIn m t)) (sym e)
 
 -- and its last arm is no row
+pub kind-apart : (m : Mode) (t : ℕ) → Apart t (keysOnto tagOf (m .kinds) []) → kindIn m t ≡ none
+unfolding kindIn
+kind-apart m t h = find-apart tagOf t (m .kinds) [] h .0
+
 pub no-arm : (m : Mode) (t : ℕ) → Apart t (keysOnto tagOf (m .kinds) []) → Bd.NoKind ≡ boundsBy (kindIn m t)
-unfolding kindIn boundsBy
-no-arm m t h = sym (ap boundsBy (find-apart tagOf t (m .kinds) [] h .0))
+unfolding boundsBy
+no-arm m t h = sym (ap boundsBy (kind-apart m t h))
+
+-- the same for a byte that is one of some
+pub one-of : (bs : List ℕ) {t n : ℕ} → t ≡ n → isOneOf n bs ≡ isOneOf t bs
+one-of bs e = ap (λ (t : ℕ). isOneOf t bs) (sym e)
+
+none-by : (t : ℕ) (bs ks : List ℕ) → Apart t (keysOnto (λ (n : ℕ). n) bs ks) → (isOneOf t bs ≡ false) × Apart t ks
+unfolding isOneOf
+none-by t [] ks h = (refl, h)
+none-by t (b ∷ bs) ks h =
+    let r = none-by t bs (b ∷ ks) h in
+    (rw (ne-eqb t b (r .1 .1)) (r .0), r .1 .0)
+
+pub none-of : (bs : List ℕ) (t : ℕ) → Apart t (keysOnto (λ (n : ℕ). n) bs []) → false ≡ isOneOf t bs
+none-of bs t h = sym (none-by t bs [] h .0)
+
+-- the mode of some rules, as an arm of a `match` on it knows it, and its last arm
+abbrev pub numberOf : Mode → ℕ
+numberOf m = m .mode
+
+pub mode-is : (rules : Rules) {n : ℕ} → rules .mode ≡ n → modeOf rules ≡ find numberOf n modes
+unfolding modeOf
+mode-is rules e = ap (λ (n : ℕ). find numberOf n modes) e
+
+pub no-mode : (rules : Rules) → Apart (rules .mode) (keysOnto numberOf modes []) → modeOf rules ≡ none
+unfolding modeOf
+no-mode rules h = find-apart numberOf (rules .mode) modes [] h .0

@@ -1,3 +1,5 @@
 pub mod Find
 pub mod Numbers
 pub mod Counts
+pub mod Ended
+pub mod Framed

@@ -50,15 +50,21 @@ unfoldable pub bareBy : Option Kind → Header
 bareBy none = refuse typeUnknown 0
 bareBy (some k) = framed k 1 1
 
--- kind says which kind a type byte, code or answer byte is, if any
-unfoldable pub headerIn : Envelope → (ℕ → Option Kind) → List ℕ → Header
-headerIn typed kind s = cond (eqb (length s) 0) more (typedBy (kind (numberAt 1 s 0)) s)
-headerIn untyped kind s = cond (ltb (length s) 8) more (untypedBy (kind (numberAt 4 s 4)) s)
-headerIn bare kind s = cond (eqb (length s) 0) more (bareBy (kind (numberAt 1 s 0)))
+-- the type byte, code or answer byte
+abbrev pub tagAt : Envelope → List ℕ → ℕ
+tagAt typed s = numberAt 1 s 0
+tagAt untyped s = numberAt 4 s 4
+tagAt bare s = numberAt 1 s 0
+
+-- kind is the kind that the tag tells, if any
+unfoldable pub headerIn : Envelope → Option Kind → List ℕ → Header
+headerIn typed kind s = cond (eqb (length s) 0) more (typedBy kind s)
+headerIn untyped kind s = cond (ltb (length s) 8) more (untypedBy kind s)
+headerIn bare kind s = cond (eqb (length s) 0) more (bareBy kind)
 
 unfoldable pub headerBy : Option Mode → List ℕ → Header
 headerBy none s = refuse modeUnknown 0
-headerBy (some m) s = headerIn (m .envelope) (kindIn m) s
+headerBy (some m) s = headerIn (m .envelope) (kindIn m (tagAt (m .envelope) s)) s
 
 unfoldable pub headerOf : Rules → List ℕ → Header
 headerOf rules s = headerBy (modeOf rules) s

@@ -11,12 +11,13 @@ use Rattle.protocol.specs.declared.Message.the-variants.{Bind, BindCompl
 use Rattle.protocol.specs.declared.Message.{Message}
 use Rattle.protocol.specs.declared.Rules.{Rules}
 use Rattle.protocol.specs.declared.Span.{Span}
+use Rattle.protocol.specs.declared.data.FieldDescription.{FieldDescription}
 use Rattle.protocol.specs.declared.kinds.Bounds.the-variants as Bd
 use Rattle.protocol.specs.declared.kinds.Bounds.{Bounds}
 use Rattle.protocol.specs.declared.response.GssEncResponse.the-variants as Gss
 use Rattle.protocol.specs.declared.response.SslResponse.the-variants as Ssl
 use Rattle.protocol.specs.Each.{Each}
-use Rattle.protocol.specs.Fields.{Atom, unsigned, signed, oneOf, text, value, rest, Item, Count, signedCount, Field, one, counted, ended, Slot}
+use Rattle.protocol.specs.Fields.{Atom, unsigned, signed, oneOf, text, value, rest, AtomSlot, Item, Count, signedCount, Field, one, counted, ended, Slot}
 
 -- how a frame is framed: by a type byte and a length, by a length and a code, or as one byte alone
 pub data Envelope : Type 0 where
@@ -50,11 +51,17 @@ i8 = one (signed 1)
 abbrev pub i32 : Field
 i32 = one (signed 4)
 
+abbrev pub targets : List ℕ
+targets = code "S" ∷ code "P" ∷ []
+
 abbrev pub target : Field
-target = one (oneOf (code "S" ∷ code "P" ∷ []))
+target = one (oneOf targets)
+
+abbrev pub statuses : List ℕ
+statuses = code "I" ∷ code "T" ∷ code "E" ∷ []
 
 abbrev pub status : Field
-status = one (oneOf (code "I" ∷ code "T" ∷ code "E" ∷ []))
+status = one (oneOf statuses)
 
 -- a value's element: NULL, or where it stands
 unfoldable pub valueElement : Option Span → Element
@@ -71,19 +78,22 @@ abbrev pub nullable : Item
 nullable = record { atoms = value ∷ []; element = λ s. valueElement (s .0) }
 
 -- name, table i32, column i16, type u32, size i16, modifier i32, format i16
-abbrev pub rowField : Item
-rowField = record {
-  atoms = text ∷ signed 4 ∷ signed 2 ∷ unsigned 4 ∷ signed 2 ∷ signed 4 ∷ signed 2 ∷ [];
-  element = λ s. E.Field (record {
-    name = s .0;
-    «table_id» = s .1 .0;
-    «column_id» = s .1 .1 .0;
-    «type_id» = s .1 .1 .1 .0;
-    «type_size» = s .1 .1 .1 .1 .0;
-    «type_modifier» = s .1 .1 .1 .1 .1 .0;
-    «format_code» = s .1 .1 .1 .1 .1 .1 .0;
-  });
+abbrev pub rowFieldAtoms : List Atom
+rowFieldAtoms = text ∷ signed 4 ∷ signed 2 ∷ unsigned 4 ∷ signed 2 ∷ signed 4 ∷ signed 2 ∷ []
+
+abbrev pub rowFieldOf : Each AtomSlot rowFieldAtoms → FieldDescription
+rowFieldOf s = record {
+  name = s .0;
+  «table_id» = s .1 .0;
+  «column_id» = s .1 .1 .0;
+  «type_id» = s .1 .1 .1 .0;
+  «type_size» = s .1 .1 .1 .1 .0;
+  «type_modifier» = s .1 .1 .1 .1 .1 .0;
+  «format_code» = s .1 .1 .1 .1 .1 .1 .0;
 }
+
+abbrev pub rowField : Item
+rowField = record { atoms = rowFieldAtoms; element = λ s. E.Field (rowFieldOf s) }
 
 -- a code byte, a string
 abbrev pub errorField : Item

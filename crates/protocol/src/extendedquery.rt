@@ -1,4 +1,7 @@
 // The extended query messages, as in extendedquery.rs.
+ghost use mathlib.Core.Path.{_≡_};
+ghost use Rattle.protocol.specs.Bytes.{isOneOf};
+ghost use Rattle.protocol.specs.Kinds.{targets};
 use crate::List;
 use crate::Span;
 
@@ -28,6 +31,16 @@ pub const MESSAGE_TYPE_BYTE_PORTAL_SUSPENDED: u8 = b's';
 pub const TARGET_TYPE_BYTE_STATEMENT: u8 = b'S';
 
 pub const TARGET_TYPE_BYTE_PORTAL: u8 = b'P';
+
+pub fn is_target(byte: u8) -> bool
+    ensures { λ r. ⌜ r ≡ isOneOf byte targets ⌝ }
+{
+    match byte {
+        TARGET_TYPE_BYTE_STATEMENT => true,
+        TARGET_TYPE_BYTE_PORTAL => true,
+        _ => false,
+    }
+}
 
 pub struct Parse {
     pub name: Span,

@@ -1,4 +1,7 @@
 // The general responses, as in response.rs.
+ghost use mathlib.Core.Path.{_≡_};
+ghost use Rattle.protocol.specs.Bytes.{isOneOf};
+ghost use Rattle.protocol.specs.Kinds.{statuses};
 use crate::List;
 use crate::Span;
 
@@ -20,6 +23,17 @@ pub const READY_STATUS_IDLE: u8 = b'I';
 pub const READY_STATUS_TRANSACTION_BLOCK: u8 = b'T';
 
 pub const READY_STATUS_FAILED_TRANSACTION_BLOCK: u8 = b'E';
+
+pub fn is_status(byte: u8) -> bool
+    ensures { λ r. ⌜ r ≡ isOneOf byte statuses ⌝ }
+{
+    match byte {
+        READY_STATUS_IDLE => true,
+        READY_STATUS_TRANSACTION_BLOCK => true,
+        READY_STATUS_FAILED_TRANSACTION_BLOCK => true,
+        _ => false,
+    }
+}
 
 pub struct CommandComplete {
     pub tag: Span,

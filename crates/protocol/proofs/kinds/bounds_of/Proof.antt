@@ -10,13 +10,14 @@ use lib.Dec.{eqb}
 use Rattle.protocol.specs.declared.Rules.{Rules}
 use Rattle.protocol.specs.declared.kinds.Bounds.the-variants as Bd
 use Rattle.protocol.specs.Kinds.{Mode, modes, find, modeOf, kindIn, kindBy, kindOf, boundsBy, boundsOf, frontend, backend, cancel, tlsAnswer, gssAnswer, cancelRequest}
+use Rattle.protocol.proofs.Find.{numberOf, mode-is}
 use Rattle.protocol.proofs.kinds.bounds_of.Statement.{statement}
 use Rattle.protocol.proofs.kinds.bounds_of.Tie as tie
 
 -- the table of a mode that is known
-known : (rules : Rules) (t : ℕ) {n : ℕ} → rules .mode ≡ n → boundsBy (kindBy (find (λ (m : Mode). m .mode) n modes) t) ≡ boundsOf rules t
-unfolding boundsOf kindOf modeOf
-known rules t e = ap (λ (n : ℕ). boundsBy (kindBy (find (λ (m : Mode). m .mode) n modes) t)) (sym e)
+known : (rules : Rules) (t : ℕ) {n : ℕ} → rules .mode ≡ n → boundsBy (kindBy (find numberOf n modes) t) ≡ boundsOf rules t
+unfolding boundsOf kindOf
+known rules t e = ap (λ (m : Option Mode). boundsBy (kindBy m t)) (sym (mode-is rules e))
 
 -- mode 2, or no mode
 unknown : (t : ℕ) (b : Bool) → t < 256 → Bd.NoKind ≡ boundsBy (kindBy (cond b (some cancel) none) t)
