@@ -1,3 +1,2 @@
-pub mod Passing
 pub mod Headers
-pub mod Told
+pub mod Bodies

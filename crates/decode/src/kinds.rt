@@ -1,12 +1,13 @@
 // The choice by kind: a frame's own type byte tells its decoder.
 ghost use mathlib.Core.Path.{_≡_};
 ghost use Rattle.protocol.specs.Kinds as K;
-ghost use Rattle.decode.specs.Steps.{bodyIn, bodyTold};
-use crate::cancel;
-use crate::copy;
-use crate::data;
-use crate::extendedquery;
-use crate::response;
+ghost use Rattle.bodies.specs.Steps.{bodyTold};
+ghost use Rattle.decode.specs.Steps.{bodyIn};
+use bodies::cancel;
+use bodies::copy;
+use bodies::data;
+use bodies::extendedquery;
+use bodies::response;
 use codec::Byte;
 use codec::Cursor;
 use protocol::Body;

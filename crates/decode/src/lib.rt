@@ -3,14 +3,8 @@ ghost use mathlib.Core.Path.{_≡_};
 ghost use Rattle.protocol.specs.Bytes.{partOf};
 ghost use Rattle.protocol.specs.Decode.{decodeOf, decodedBy};
 
-pub mod body;
-pub mod cancel;
-pub mod copy;
-pub mod data;
-pub mod extendedquery;
 pub mod header;
 pub mod kinds;
-pub mod response;
 
 use header::Header;
 use header::header_of;

@@ -9,7 +9,7 @@ use Rattle.protocol.specs.Decode.{framed, headerOf, decodedBy, decodeBy, decode
 use Rattle.protocol.specs.Kinds.{Kind}
 use Rattle.protocol.proofs.Framed.{Framed, framed-is, framed-ends}
 use Rattle.decode.proofs.Headers.{seen-frame, seen-more, seen-refused}
-use Rattle.decode.proofs.Told.{framed-body}
+use Rattle.decode.proofs.Bodies.{framed-body}
 use Rattle.decode.proofs.decode_by.Statement.{statement}
 use Rattle.decode.proofs.decode_by.Tie as tie
 

@@ -4,8 +4,8 @@ use borrow.Author.Needs.{needs}
 use Rattle.protocol.specs.Kinds.{find, kindIn, backend, parseComplete, bindComplete, closeComplete, portalSuspended, noData, emptyQueryResponse, copyDone, rowDescription, parameterDescription, dataRow, commandComplete, readyForQuery, errorResponse, noticeResponse, copyInResponse, copyOutResponse, copyBothResponse, notificationResponse, copyData}
 use Rattle.protocol.specs.Reading.{got}
 use Rattle.codec.specs.Answers.{byteRead}
-use Rattle.decode.specs.Steps.{tagRead}
-use Rattle.decode.proofs.Told.{told-cut, told-arm, told-none}
+use Rattle.bodies.specs.Steps.{tagRead}
+use Rattle.bodies.proofs.Told.{told-cut, told-arm, told-none}
 use Rattle.decode.proofs.kinds.backend.Statement.{statement}
 use Rattle.decode.proofs.kinds.backend.Tie as tie
 

@@ -4,7 +4,7 @@ use borrow.Author.Needs.{needs}
 use Rattle.protocol.specs.Kinds.{find, frontend, backend, cancel, tlsAnswer, gssAnswer}
 use Rattle.protocol.proofs.Find.{mode-is, no-mode}
 use Rattle.decode.specs.Steps.{bodyFrom, bodyIn}
-use Rattle.decode.proofs.Told.{in-mode}
+use Rattle.decode.proofs.Bodies.{in-mode}
 use Rattle.decode.proofs.kinds.body_of.Statement.{statement}
 use Rattle.decode.proofs.kinds.body_of.Tie as tie
 

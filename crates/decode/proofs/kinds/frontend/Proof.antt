@@ -4,8 +4,8 @@ use borrow.Author.Needs.{needs}
 use Rattle.protocol.specs.Kinds.{find, kindIn, frontend, parse, bind, close, describe, execute, flush, sync, copyDone, copyData, copyFail}
 use Rattle.protocol.specs.Reading.{got}
 use Rattle.codec.specs.Answers.{byteRead}
-use Rattle.decode.specs.Steps.{tagRead}
-use Rattle.decode.proofs.Told.{told-cut, told-arm, told-none}
+use Rattle.bodies.specs.Steps.{tagRead}
+use Rattle.bodies.proofs.Told.{told-cut, told-arm, told-none}
 use Rattle.decode.proofs.kinds.frontend.Statement.{statement}
 use Rattle.decode.proofs.kinds.frontend.Tie as tie
 

@@ -1,0 +1,3 @@
+// The items of lists that are walked, and the lists of them. What a kind's decoder reads of an item, an element call reads too.
+pub mod data;
+pub mod response;
