@@ -3,3 +3,4 @@ pub mod Numbers
 pub mod Counts
 pub mod Ended
 pub mod Framed
+pub mod Open

@@ -3,7 +3,9 @@ use Prim.Native.Char.{Char, code}
 use Prim.Native.Nat.{ℕ}
 use mathlib.Core.Bool.{Bool, true, false, cond}
 use mathlib.Core.List.{List, [], _∷_}
+use mathlib.Core.Logic.{_⊎_}
 use mathlib.Core.Option.{Option, some, none}
+use mathlib.Core.Path.{_≡_}
 use lib.Dec.{eqb}
 use Rattle.protocol.specs.declared.Element.the-variants as E
 use Rattle.protocol.specs.declared.Element.{Element}
@@ -280,6 +282,11 @@ abbrev pub modes : List Mode
 modes = frontend ∷ backend ∷ cancel ∷ tlsAnswer ∷ gssAnswer ∷ []
 
 -- ---- finding a row
+
+-- x is one of a list
+abbrev pub IsIn : {A : Type 0} → A → List A → Type 0
+IsIn x [] = ⊥
+IsIn x (y ∷ ys) = (x ≡ y) ⊎ IsIn x ys
 
 -- the first of a list whose key is k
 unfoldable pub find : {A : Type 0} → (A → ℕ) → ℕ → List A → Option A

@@ -1,7 +1,7 @@
 -- The well-formed frames: what there is to say of a frame without reading one.
 use Prim.Native.Nat.{ℕ, _+_, _≤_}
 use mathlib.Core.Bool.{Bool, true}
-use mathlib.Core.List.{List, [], _∷_, _++_, List·Memᴰ}
+use mathlib.Core.List.{List, [], _∷_, _++_}
 use mathlib.Core.Path.{_≡_}
 use lib.ListN.{length}
 use Rattle.protocol.specs.declared.Message.{Message}
@@ -9,7 +9,7 @@ use Rattle.protocol.specs.declared.Rules.{Rules}
 use Rattle.protocol.specs.Bytes.{be}
 use Rattle.protocol.specs.Each.{Each, bytesOfEach, slotsOfEach, ableEach, HoldsEach}
 use Rattle.protocol.specs.Fields.{Field, Content, InRange, able, bytes, slot}
-use Rattle.protocol.specs.Kinds.{Envelope, typed, untyped, bare, Kind, Mode, modes}
+use Rattle.protocol.specs.Kinds.{Envelope, typed, untyped, bare, Kind, Mode, modes, IsIn}
 
 -- what a frame of a kind means: a content for each field
 abbrev pub Contents : Kind → Type 0
@@ -48,9 +48,9 @@ allAble rules k c = ableEach (able rules) (k .body) c
 
 -- a frame of the kind k in the mode m, with the content c, is well formed
 pub record WellFormed (rules : Rules) (m : Mode) (k : Kind) (c : Contents k) : Type 0 where
-  pub known : List·Memᴰ m modes
+  pub known : IsIn m modes
   pub mode : m .mode ≡ rules .mode
-  pub kind : List·Memᴰ k (m .kinds)
+  pub kind : IsIn k (m .kinds)
   pub inRange : AllInRange k c
   pub writable : allAble rules k c ≡ true
   pub withinLimit : lengthOf (m .envelope) (length (bodyBytes k c)) ≤ k .limit

@@ -1,0 +1,6 @@
+pub mod Document
+pub mod Waiting
+pub mod Places
+pub mod Faults
+pub mod Edges
+pub mod Statements
