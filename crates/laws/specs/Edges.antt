@@ -24,22 +24,23 @@ edges =
     ∷ edge 0 (0x53 ∷ 0x00 ∷ 0x00 ∷ 0x00 ∷ 0x05 ∷ 0x00 ∷ []) (D.Refused 8 5)
     ∷ edge 1 (0x53 ∷ 0x00 ∷ 0x00 ∷ 0x00 ∷ 0x04 ∷ []) (D.Refused 2 0)
     ∷ edge 0 (0x42 ∷ 0x00 ∷ 0x00 ∷ 0x00 ∷ 0x10 ∷ 0x00 ∷ 0x00 ∷ 0x00 ∷ 0x00 ∷ 0x00 ∷ 0x01 ∷ 0xFF ∷ 0xFF ∷ 0xFF ∷ 0xFF ∷ 0x00 ∷ 0x00 ∷ [])
-      (D.Record
-      (M.Bind (record {
-        «portal_name» = record { start = 5; len = 0 };
-        «statement_name» = record { start = 6; len = 0 };
-        «parameter_format_codes» = record { start = 9; count = 0 };
-        parameters = record { start = 11; count = 1 };
-        «result_column_format_codes» = record { start = 17; count = 0 } }))
-      17)
+    (D.Record
+    (M.Bind (record {
+      «portal_name» = record { start = 5; len = 0 };
+      «statement_name» = record { start = 6; len = 0 };
+      «parameter_format_codes» = record { start = 9; count = 0 };
+      parameters = record { start = 11; count = 1 };
+      «result_column_format_codes» = record { start = 17; count = 0 };
+    }))
+    17)
     ∷ edge 0 (0x42 ∷ 0x00 ∷ 0x00 ∷ 0x00 ∷ 0x10 ∷ 0x00 ∷ 0x00 ∷ 0x00 ∷ 0x00 ∷ 0x00 ∷ 0x01 ∷ 0xFF ∷ 0xFF ∷ 0xFF ∷ 0xFE ∷ 0x00 ∷ 0x00 ∷ []) (D.Refused 7 11)
     ∷ edge 1 (0x44 ∷ 0x00 ∷ 0x00 ∷ 0x00 ∷ 0x10 ∷ 0x00 ∷ 0x02 ∷ 0x00 ∷ 0x00 ∷ 0x00 ∷ 0x02 ∷ 0x61 ∷ 0x62 ∷ 0xFF ∷ 0xFF ∷ 0xFF ∷ 0xFF ∷ [])
-      (D.Record (M.DataRow (record { «data» = record { start = 7; count = 2 } })) 17)
+    (D.Record (M.DataRow (record { «data» = record { start = 7; count = 2 } })) 17)
     ∷ edge 1 (0x43 ∷ 0x00 ∷ 0x00 ∷ 0x00 ∷ 0x06 ∷ 0x4F ∷ 0x4B ∷ []) (D.Refused 6 5)
     ∷ edge 1 (0x54 ∷ 0x00 ∷ 0x00 ∷ 0x00 ∷ 0x06 ∷ 0xFF ∷ 0xFF ∷ []) (D.Refused 5 5)
     ∷ edge 1 (0x45 ∷ 0x00 ∷ 0x00 ∷ 0x00 ∷ 0x05 ∷ 0x00 ∷ []) (D.Record (M.ErrorResponse (record { fields = record { start = 5; count = 0 } })) 6)
     ∷ edge 2 (0x00 ∷ 0x00 ∷ 0x00 ∷ 0x10 ∷ 0x04 ∷ 0xD2 ∷ 0x16 ∷ 0x2E ∷ 0x00 ∷ 0x00 ∷ 0x00 ∷ 0x07 ∷ 0x00 ∷ 0x00 ∷ 0x00 ∷ 0x09 ∷ [])
-      (D.Record (M.CancelRequest (record { pid = pos 7; «secret_key» = pos 9 })) 16)
+    (D.Record (M.CancelRequest (record { pid = pos 7; «secret_key» = pos 9 })) 16)
     ∷ edge 3 (0x45 ∷ []) (D.Refused 2 0)
     ∷ []
 

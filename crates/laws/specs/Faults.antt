@@ -70,8 +70,8 @@ abbrev pub CountFault : Count → Item → List ℕ → ℕ → Type 0
 CountFault k i g number =
     Short 2 g number
     ⊎ ((number ≡ badCount) × (2 ≤ length g)
-      × (((n : ℕ) × (countOf k (numberAt 2 g 0) ≡ negsuc n))
-        ⊎ ((n : ℕ) × (countOf k (numberAt 2 g 0) ≡ pos n) × (length (drop 2 g) < n * itemLeast i))))
+    × (((n : ℕ) × (countOf k (numberAt 2 g 0) ≡ negsuc n))
+    ⊎ ((n : ℕ) × (countOf k (numberAt 2 g 0) ≡ pos n) × (length (drop 2 g) < n * itemLeast i))))
 
 -- a fault of an item of a counted list: a right count, some right items, fewer than it says, and a fault in the next
 pub record ItemFault (rules : Rules) (k : Count) (i : Item) (g : List ℕ) (number at : ℕ) : Type 0 where
