@@ -14,11 +14,11 @@ use Rattle.protocol.proofs.Find.{every}
 use Rattle.protocol.proofs.Open.{the-table}
 use Rattle.laws.specs.Statements.{Table}
 
-and-left : (a b : Bool) → T (a && b) → T a
+pub and-left : (a b : Bool) → T (a && b) → T a
 and-left true b t = tt
 and-left false b t = t
 
-and-right : (a b : Bool) → T (a && b) → T b
+pub and-right : (a b : Bool) → T (a && b) → T b
 and-right true b t = t
 and-right false b t = absurd t
 

@@ -1,0 +1,148 @@
+-- Items and lists of them: their bytes are read as them.
+use Prim.Native.Nat.{ℕ, zero, suc, _+_, _-_, _*_, _/_, _%_, _^_, _≤_, _<_}
+use mathlib.Core.Bool.{Bool, true, false, cond, not, _&&_, false≢true}
+use mathlib.Core.List.{List, [], _∷_, _++_, append-assoc, append-nil}
+use mathlib.Core.Option.{Option, some, none}
+use mathlib.Core.Path.{_≡_, refl, ap, sym, _∙_}
+use native.Mathlib.Omega.{arith}
+use borrow.Author.Tests.{le-leb, leb-true, not-true, not-false, ne-eqb, eqb-false}
+use lib.Dec.{T, leb, leb→le, eqb}
+use lib.IntN.{ℤ, pos, negsuc}
+use lib.ListN.{length, take, drop, length-append}
+use lib.Seq.{drop-append-seam}
+use Rattle.protocol.specs.declared.List.{List as ListSlot}
+use Rattle.protocol.specs.declared.Rules.{Rules}
+use Rattle.protocol.specs.Bytes.{Bytes, numberFrom, numberAt, be, signedOf, bitsOf}
+use Rattle.protocol.specs.Each.{Each, bytesOfEach, slotsOfEach, ableEach, HoldsEach, leastOfEach}
+use Rattle.protocol.specs.Fields.{Atom, unsigned, signed, oneOf, text, value, rest, AtomContent, AtomSlot, ValueInRange, AtomInRange, atomAble, valueBytes, atomBytes, atomSlot, atomLeast, Item, ItemContent, ItemInRange, itemAble, itemBytes, itemSlots, itemLeast, itemsBytes, ItemsInRange, itemsAble, zeroFirst, noneEnds, Count, signedCount, most}
+use Rattle.protocol.specs.Reading.{Read, got, bad, andThen, readNumber, readAtom, readEach, readItem, passItems, countOf, countAt, readCount, readCounted, endedFrom, readEnded}
+use Rattle.protocol.proofs.Find.{every}
+use Rattle.protocol.proofs.Numbers.{lower}
+use Rattle.laws.proofs.Atoms.{saneAtom, LastAtom, atom-back, number-back, byte-back}
+use Rattle.laws.proofs.EachReads.{ReadsBack, AllReadBack, each-reads-back}
+use Rattle.laws.proofs.Numbers.{length-be, bytes-append}
+use Rattle.laws.proofs.Table.{and-left, and-right}
+
+-- both of two tests passed
+pub both : (a b : Bool) → a && b ≡ true → (a ≡ true) × (b ≡ true)
+both true b h = (refl, h)
+both false b h = absurd (false≢true h)
+
+-- ---- what an item of the table is like: no rest in it, and at least a byte
+
+abbrev pub inItem : Atom → Bool
+inItem (unsigned w) = true
+inItem (signed zero) = false
+inItem (signed (suc w)) = true
+inItem (oneOf bs) = true
+inItem text = true
+inItem value = true
+inItem rest = false
+
+abbrev pub saneItem : Item → Bool
+saneItem i = every inItem (i .atoms) && leb 1 (itemLeast i)
+
+pub in-item-sane : (a : Atom) → T (inItem a) → T (saneAtom a)
+in-item-sane (unsigned w) t = tt
+in-item-sane (signed zero) t = absurd t
+in-item-sane (signed (suc w)) t = tt
+in-item-sane (oneOf bs) t = tt
+in-item-sane text t = tt
+in-item-sane value t = tt
+in-item-sane rest t = absurd t
+
+in-item-last : (a : Atom) (post : List ℕ) → T (inItem a) → LastAtom a post
+in-item-last (unsigned w) post t = tt
+in-item-last (signed w) post t = tt
+in-item-last (oneOf bs) post t = tt
+in-item-last text post t = tt
+in-item-last value post t = tt
+in-item-last rest post t = absurd t
+
+-- ---- an item
+
+atoms-back : (rules : Rules) (xs : List Atom) (c : Each AtomContent xs) (post : List ℕ) → T (every inItem xs) → HoldsEach AtomInRange xs c → ableEach (atomAble rules) xs c ≡ true → AllReadBack atomBytes atomSlot (readAtom rules) xs c post
+unfolding HoldsEach ableEach
+atoms-back rules [] c post t r h = tt
+atoms-back rules (a ∷ xs) c post t r h =
+    let s = and-left (inItem a) (every inItem xs) t in
+    let b = both _ _ h in
+    (atom-back rules a (c .0) _ (in-item-sane a s) (r .0) (b .0) (in-item-last a _ s), atoms-back rules xs (c .1) post (and-right (inItem a) (every inItem xs) t) (r .1) (b .1))
+
+module _ (rules : Rules) (i : Item) (sane : T (saneItem i)) where
+  pub item-back : (c : ItemContent i) (pre post : List ℕ) → ItemInRange i c → itemAble rules i c ≡ true → readItem rules i (pre ++ (itemBytes i c ++ post)) (length pre) ≡ got (itemSlots i (length pre) c) (length pre + length (itemBytes i c))
+  unfolding itemBytes itemSlots ItemInRange itemAble
+  item-back c pre post r h = each-reads-back atomBytes atomSlot (readAtom rules) (i .atoms) c pre post (atoms-back rules (i .atoms) c post (and-left (every inItem (i .atoms)) (leb 1 (itemLeast i)) sane) r h)
+
+  -- items one after the other
+  pub pass-back : (cs : List (ItemContent i)) (pre post : List ℕ) → ItemsInRange i cs → itemsAble rules i cs ≡ true → passItems rules i (length cs) (pre ++ (itemsBytes i cs ++ post)) (length pre) ≡ got tt (length pre + length (itemsBytes i cs))
+  unfolding passItems itemsBytes ItemsInRange itemsAble
+  pass-back [] pre post r h = ap (got tt) (omega arith)
+  pass-back (c ∷ cs) pre post r h =
+      let b = itemBytes i c in
+      let t = itemsBytes i cs in
+      let able = both _ _ h in
+      let q : length (pre ++ b) ≡ length pre + length b = length-append pre b in
+      let ih = pass-back cs (pre ++ b) post (r .1) (able .1) in
+      let l : length pre + length b + length t ≡ length pre + length (b ++ t) = simp length-append (omega arith) in
+      rw (append-assoc b t post, item-back c pre (t ++ post) (r .0) (able .0), ← append-assoc pre b (t ++ post), ← q, ih, q, l) refl
+
+-- ---- at least so many bytes
+
+value-least : (v : AtomContent value) → 4 ≤ length (valueBytes v)
+unfolding valueBytes
+value-least none = simp length-be (omega arith)
+value-least (some s) = simp (length-append, length-be) (omega arith)
+
+pub atom-least : (a : Atom) (c : AtomContent a) → atomLeast a ≤ length (atomBytes a c)
+unfolding atomBytes
+atom-least (unsigned w) c = simp length-be (omega arith)
+atom-least (signed w) c = simp length-be (omega arith)
+atom-least (oneOf bs) c = omega arith
+atom-least text c = simp length-append (omega arith)
+atom-least value c = value-least c
+atom-least rest c = omega arith
+
+pub each-least : {X : Type 0} {C : X → Type 0} (bytes : (x : X) → C x → List ℕ) (least : X → ℕ) → ((x : X) (c : C x) → least x ≤ length (bytes x c)) → (xs : List X) (c : Each C xs) → leastOfEach least xs ≤ length (bytesOfEach bytes xs c)
+unfolding leastOfEach bytesOfEach
+each-least bytes least h [] c = omega arith
+each-least bytes least h (x ∷ xs) c = simp length-append (omega (arith, h x (c .0), each-least bytes least h xs (c .1)))
+
+pub item-least : (i : Item) (c : ItemContent i) → itemLeast i ≤ length (itemBytes i c)
+unfolding itemLeast itemBytes
+item-least i c = each-least atomBytes atomLeast atom-least (i .atoms) c
+
+pub items-least : (i : Item) (cs : List (ItemContent i)) → length cs * itemLeast i ≤ length (itemsBytes i cs)
+unfolding itemsBytes
+items-least i [] = omega arith
+items-least i (c ∷ cs) = simp length-append (omega (arith, item-least i c, items-least i cs))
+
+-- ---- an item's bytes are bytes
+
+be-bytes : (w n : ℕ) → Bytes (be w n)
+unfolding be Bytes
+be-bytes zero n = tt
+be-bytes (suc w) n = bytes-append (be w (n / 256)) (n % 256 ∷ []) (be-bytes w (n / 256)) (omega arith, tt)
+
+value-bytes : (v : AtomContent value) → ValueInRange v → Bytes (valueBytes v)
+unfolding valueBytes ValueInRange
+value-bytes none r = be-bytes 4 _
+value-bytes (some s) r = bytes-append (be 4 (length s)) s (be-bytes 4 (length s)) (r .0)
+
+pub atom-bytes : (a : Atom) (c : AtomContent a) → AtomInRange a c → Bytes (atomBytes a c)
+unfolding atomBytes AtomInRange Bytes
+atom-bytes (unsigned w) c r = be-bytes w c
+atom-bytes (signed w) c r = be-bytes w _
+atom-bytes (oneOf bs) c r = (r, tt)
+atom-bytes text c r = bytes-append c (0 ∷ []) r (omega arith, tt)
+atom-bytes value c r = value-bytes c r
+atom-bytes rest c r = r
+
+pub each-bytes : {X : Type 0} {C : X → Type 0} (bytes : (x : X) → C x → List ℕ) (InRange : (x : X) → C x → Type 0) → ((x : X) (c : C x) → InRange x c → Bytes (bytes x c)) → (xs : List X) (c : Each C xs) → HoldsEach InRange xs c → Bytes (bytesOfEach bytes xs c)
+unfolding HoldsEach bytesOfEach Bytes
+each-bytes bytes InRange h [] c r = tt
+each-bytes bytes InRange h (x ∷ xs) c r = bytes-append (bytes x (c .0)) (bytesOfEach bytes xs (c .1)) (h x (c .0) (r .0)) (each-bytes bytes InRange h xs (c .1) (r .1))
+
+pub item-bytes : (i : Item) (c : ItemContent i) → ItemInRange i c → Bytes (itemBytes i c)
+unfolding itemBytes ItemInRange
+item-bytes i c r = each-bytes atomBytes AtomInRange atom-bytes (i .atoms) c r
