@@ -1,10 +1,10 @@
 -- The table of kinds: held against document 01's lines, and against its own shape. A test over all rows is computed, and a law carries it to each.
 use Prim.Native.Nat.{ℕ}
-use mathlib.Core.Bool.{Bool, true, false, cond, not, _&&_, _||_}
+use mathlib.Core.Bool.{Bool, true, false, cond, not, _&&_}
 use mathlib.Core.List.{List, [], _∷_}
-use mathlib.Core.Logic.{_⊎_, inl, inr, _↔_}
+use mathlib.Core.Logic.{inl, inr, _↔_}
+use mathlib.Core.Option.{some, none}
 use mathlib.Core.Path.{_≡_, refl, ap, sym, _∙_}
-use mathlib.Core.Option.{Option, some, none}
 use native.Mathlib.Omega.{arith}
 use borrow.Author.Tests.{eqb-true, eq-eqb, ne-eqb}
 use lib.Dec.{T, eqb, eqb→eq}
@@ -57,11 +57,13 @@ module _ {A : Type 0} (key : A → ℕ) where
   distinct [] = true
   distinct (x ∷ xs) = fresh (key x) xs && distinct xs
 
+  -- a fresh key is no row's
   not-fresh : (t : ℕ) (xs : List A) → T (fresh t xs) → (x : A) → IsIn x xs → key x ≡ t → ⊥
   not-fresh t xs f x i e =
       let n = every-in (λ (x : A). not (eqb t (key x))) xs f x i in
       rw (eq-eqb t (key x) (sym e)) at n
 
+  -- what is found is in the list and has the key: the first row, or by `rest` a later one
   found-by : (t : Bool) (n : ℕ) (y : A) (ys : List A) (x : A) → eqb n (key y) ≡ t → (find key n ys ≡ some x → IsIn x ys × (key x ≡ n)) → cond t (some y) (find key n ys) ≡ some x → IsIn x (y ∷ ys) × (key x ≡ n)
   found-by true n y ys x t rest e =
       let q : y ≡ x = cc in
@@ -73,6 +75,7 @@ module _ {A : Type 0} (key : A → ℕ) where
   found [] n x e = let z : _≡_ {A = ℕ} 0 1 = cc in absurd (omega arith)
   found (y ∷ ys) n x e = found-by (eqb n (key y)) n y ys x refl (found ys n x) e
 
+  -- where no two share a key, what is in the list is found by its own
   finds : (xs : List A) → T (distinct xs) → (n : ℕ) (x : A) → IsIn x xs → key x ≡ n → find key n xs ≡ some x
   unfolding find
   finds (y ∷ ys) d n x (inl q) e = rw (eq-eqb n (key y) (sym e ∙ ap key q)) (ap some (sym q))
@@ -80,10 +83,11 @@ module _ {A : Type 0} (key : A → ℕ) where
       let f = and-left (fresh (key y) ys) (distinct ys) d in
       rw (ne-eqb n (key y) (λ q. not-fresh (key y) ys f x i (e ∙ q))) (finds ys (and-right (fresh (key y) ys) (distinct ys) d) n x i e)
 
-  -- where no two share a key, what is found by n is the one in the list whose key is n
-  pub found-is : (xs : List A) → T (distinct xs) → (n : ℕ) (x : A) → (find key n xs ≡ some x) ↔ (IsIn x xs × (key x ≡ n))
+  -- so what is found by n is the one in the list whose key is n
+  found-is : (xs : List A) → T (distinct xs) → (n : ℕ) (x : A) → (find key n xs ≡ some x) ↔ (IsIn x xs × (key x ≡ n))
   found-is xs d n x = (found xs n x, λ h. finds xs d n x (h .0) (h .1))
 
+-- no two modes share a number, and no two kinds of a mode a tag
 modes-distinct : T (distinct numberOf modes)
 unfolding the-table
 modes-distinct = tt
