@@ -1,3 +1,4 @@
 pub mod Numbers
 pub mod Edges
 pub mod Table
+pub mod Headers
