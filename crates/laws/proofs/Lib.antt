@@ -2,3 +2,4 @@ pub mod Numbers
 pub mod Edges
 pub mod Table
 pub mod Headers
+pub mod MoreBytes
