@@ -3,3 +3,4 @@ pub mod Edges
 pub mod Table
 pub mod Headers
 pub mod MoreBytes
+pub mod NeedMore
