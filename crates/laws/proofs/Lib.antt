@@ -5,3 +5,6 @@ pub mod Items
 pub mod Lists
 pub mod Edges
 pub mod Table
+pub mod Headers
+pub mod MoreBytes
+pub mod NeedMore
