@@ -50,7 +50,7 @@ number-back w n pre post h =
     rw (le-leb _ _ l, at-be w n pre post h) refl
 
 -- one byte
-byte-be : (b : ℕ) → b < 256 → b ∷ [] ≡ be 1 b
+pub byte-be : (b : ℕ) → b < 256 → b ∷ [] ≡ be 1 b
 unfolding be
 byte-be b h = let e : b ≡ b % 256 = omega arith in ap (λ (n : ℕ). n ∷ []) e
 

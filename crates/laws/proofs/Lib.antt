@@ -3,6 +3,9 @@ pub mod EachReads
 pub mod Atoms
 pub mod Items
 pub mod Lists
+pub mod Bodies
+pub mod Rows
+pub mod Complete
 pub mod Edges
 pub mod Table
 pub mod Headers

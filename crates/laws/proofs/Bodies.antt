@@ -1,0 +1,95 @@
+-- Fields and bodies: their bytes are read as them. A body's fields are read one after the other, so a law of each field is one of every body.
+use Prim.Native.Nat.{ℕ, zero, suc, _+_, _≤_, _<_}
+use mathlib.Core.Bool.{Bool, true, false, cond, not, _&&_}
+use mathlib.Core.List.{List, [], _∷_, _++_, append-nil}
+use mathlib.Core.Path.{_≡_, refl, ap, sym, _∙_}
+use native.Mathlib.Omega.{arith}
+use borrow.Author.Tests.{le-ltb}
+use lib.Dec.{T, ltb}
+use lib.ListN.{length, length-append}
+use Rattle.protocol.specs.declared.Rules.{Rules}
+use Rattle.protocol.specs.Decode.{closed, readBody}
+use Rattle.protocol.specs.Each.{Each, bytesOfEach, slotsOfEach, ableEach, HoldsEach}
+use Rattle.protocol.specs.Fields.{Atom, unsigned, signed, oneOf, text, value, rest, Field, one, counted, ended, Content, Slot, InRange, able, bytes, slot}
+use Rattle.protocol.specs.Kinds.{Kind}
+use Rattle.protocol.specs.Reading.{Read, got, bad, andThen, read, readEach}
+use Rattle.protocol.specs.WellFormed.{Contents, bodyBytes, AllInRange, allAble}
+use Rattle.laws.proofs.Atoms.{saneAtom, LastAtom, atom-back}
+use Rattle.laws.proofs.EachReads.{ReadsBack, AllReadBack, each-reads-back}
+use Rattle.laws.proofs.Items.{both, saneItem}
+use Rattle.laws.proofs.Lists.{counted-back, ended-back}
+use Rattle.laws.proofs.Table.{and-left, and-right}
+
+-- ---- what the bodies of the table are like: the rest of a frame stands only at its end
+
+abbrev pub saneField : Field → Bool
+saneField (one a) = saneAtom a
+saneField (counted k i) = saneItem i
+saneField (ended i) = saneItem i
+
+-- a field that does not read to the frame's end
+abbrev stops : Field → Bool
+stops (one (unsigned w)) = true
+stops (one (signed w)) = true
+stops (one (oneOf bs)) = true
+stops (one text) = true
+stops (one value) = true
+stops (one rest) = false
+stops (counted k i) = true
+stops (ended i) = true
+
+abbrev pub saneBody : List Field → Bool
+saneBody [] = true
+saneBody (x ∷ []) = saneField x
+saneBody (x ∷ y ∷ ys) = saneField x && (stops x && saneBody (y ∷ ys))
+
+abbrev LastField : Field → List ℕ → Type 0
+LastField (one a) post = LastAtom a post
+LastField (counted k i) post = Unit {0}
+LastField (ended i) post = Unit {0}
+
+last-nothing : (x : Field) → LastField x []
+last-nothing (one (unsigned w)) = tt
+last-nothing (one (signed w)) = tt
+last-nothing (one (oneOf bs)) = tt
+last-nothing (one text) = tt
+last-nothing (one value) = tt
+last-nothing (one rest) = refl
+last-nothing (counted k i) = tt
+last-nothing (ended i) = tt
+
+last-stops : (x : Field) (post : List ℕ) → T (stops x) → LastField x post
+last-stops (one (unsigned w)) post t = tt
+last-stops (one (signed w)) post t = tt
+last-stops (one (oneOf bs)) post t = tt
+last-stops (one text) post t = tt
+last-stops (one value) post t = tt
+last-stops (one rest) post t = absurd t
+last-stops (counted k i) post t = tt
+last-stops (ended i) post t = tt
+
+-- ---- the bytes of fields are read as them
+
+field-back : (rules : Rules) (x : Field) (c : Content x) (post : List ℕ) → T (saneField x) → InRange x c → able rules x c ≡ true → LastField x post → ReadsBack bytes slot (read rules) x c post
+unfolding bytes slot InRange able
+field-back rules (one a) c post t r h l pre = atom-back rules a c post t r h l pre
+field-back rules (counted k i) cs post t r h l pre = counted-back rules i t k cs pre post r h
+field-back rules (ended i) cs post t r h l pre = ended-back rules i t cs pre post r h
+
+fields-back : (rules : Rules) (xs : List Field) (c : Each Content xs) → T (saneBody xs) → HoldsEach InRange xs c → ableEach (able rules) xs c ≡ true → AllReadBack bytes slot (read rules) xs c []
+unfolding HoldsEach ableEach bytesOfEach
+fields-back rules [] c t r h = tt
+fields-back rules (x ∷ []) c t r h = (field-back rules x (c .0) [] t (r .0) (both _ _ h .0) (last-nothing x), tt)
+fields-back rules (x ∷ y ∷ ys) c t r h =
+    let s = and-right (saneField x) (stops x && saneBody (y ∷ ys)) t in
+    let b = both _ _ h in
+    (field-back rules x (c .0) _ (and-left (saneField x) (stops x && saneBody (y ∷ ys)) t) (r .0) (b .0) (last-stops x _ (and-left (stops x) (saneBody (y ∷ ys)) s)), fields-back rules (y ∷ ys) (c .1) (and-right (stops x) (saneBody (y ∷ ys)) s) (r .1) (b .1))
+
+-- a body's bytes, up to the frame's end, are read as its content
+pub body-back : {X : Type 0} (rules : Rules) (k : Kind) (make : Each Slot (k .body) → X) (c : Contents k) (pre : List ℕ) → T (saneBody (k .body)) → AllInRange k c → allAble rules k c ≡ true → readBody rules k make (pre ++ bodyBytes k c) (length pre) ≡ got (make (slotsOfEach bytes slot (k .body) (length pre) c)) (length pre + length (bodyBytes k c))
+unfolding bodyBytes closed
+body-back rules k make c pre t r h =
+    let b = bytesOfEach bytes (k .body) c in
+    let e = each-reads-back bytes slot (read rules) (k .body) c pre [] (fields-back rules (k .body) c t r h) in
+    let l : length (pre ++ b) ≤ length pre + length b = simp length-append (omega arith) in
+    rw (rw (append-nil b) at e, le-ltb _ _ l) refl

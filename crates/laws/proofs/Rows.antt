@@ -1,0 +1,66 @@
+-- What every row of the table is like, so far as laws of reading and writing ask: one computed test over all rows.
+use Prim.Native.Nat.{ℕ, _/_, _^_, _<_}
+use mathlib.Core.Bool.{Bool, true, false, _&&_}
+use mathlib.Core.List.{List, [], _∷_}
+use mathlib.Core.Path.{_≡_}
+use lib.Dec.{T, ltb, ltb→lt, eqb, eqb→eq}
+use Rattle.protocol.specs.Each.{leastOfEach}
+use Rattle.protocol.specs.Fields.{itemLeast}
+use Rattle.protocol.specs.Kinds.{Envelope, typed, untyped, bare, Kind, Mode, modes, IsIn}
+use Rattle.protocol.proofs.Find.{every}
+use Rattle.protocol.proofs.Open.{the-table}
+use Rattle.laws.proofs.Bodies.{saneBody}
+use Rattle.laws.proofs.Table.{and-left, and-right, every-in}
+
+-- how many bytes a tag has
+abbrev pub tagWidth : Envelope → ℕ
+tagWidth typed = 1
+tagWidth untyped = 4
+tagWidth bare = 1
+
+-- a bare frame has no length word: its only byte is its length
+abbrev pub Alone : Envelope → Kind → Type 0
+Alone typed k = Unit {0}
+Alone untyped k = Unit {0}
+Alone bare k = k .limit ≡ 1
+
+abbrev alone : Envelope → Kind → Bool
+alone typed k = true
+alone untyped k = true
+alone bare k = eqb (k .limit) 1
+
+-- a tag that its bytes can tell, lengths that a signed word can tell, and fields as the laws of bodies ask
+pub record Sane (e : Envelope) (k : Kind) : Type 0 where
+  pub tag : k .tag < 256 ^ tagWidth e
+  pub limit : k .limit < 256 ^ 4 / 2
+  pub body : T (saneBody (k .body))
+  pub alone : Alone e k
+
+abbrev saneKind : Envelope → Kind → Bool
+saneKind e k = ltb (k .tag) (256 ^ tagWidth e) && (ltb (k .limit) (256 ^ 4 / 2) && (saneBody (k .body) && alone e k))
+
+abbrev saneMode : Mode → Bool
+saneMode m = every (saneKind (m .envelope)) (m .kinds)
+
+all-sane : T (every saneMode modes)
+unfolding the-table leastOfEach itemLeast
+all-sane = tt
+
+is-alone : (e : Envelope) (k : Kind) → T (alone e k) → Alone e k
+is-alone typed k t = tt
+is-alone untyped k t = tt
+is-alone bare k t = eqb→eq _ _ t
+
+sane-by : (e : Envelope) (k : Kind) → T (saneKind e k) → Sane e k
+sane-by e k t =
+    let t1 = and-right (ltb (k .tag) (256 ^ tagWidth e)) (ltb (k .limit) (256 ^ 4 / 2) && (saneBody (k .body) && alone e k)) t in
+    let t2 = and-right (ltb (k .limit) (256 ^ 4 / 2)) (saneBody (k .body) && alone e k) t1 in
+    record {
+      tag = ltb→lt _ _ (and-left (ltb (k .tag) (256 ^ tagWidth e)) (ltb (k .limit) (256 ^ 4 / 2) && (saneBody (k .body) && alone e k)) t);
+      limit = ltb→lt _ _ (and-left (ltb (k .limit) (256 ^ 4 / 2)) (saneBody (k .body) && alone e k) t1);
+      body = and-left (saneBody (k .body)) (alone e k) t2;
+      alone = is-alone e k (and-right (saneBody (k .body)) (alone e k) t2);
+    }
+
+pub row-sane : (m : Mode) → IsIn m modes → (k : Kind) → IsIn k (m .kinds) → Sane (m .envelope) k
+row-sane m i k j = sane-by (m .envelope) k (every-in (saneKind (m .envelope)) (m .kinds) (every-in saneMode modes all-sane m i) k j)
