@@ -4,20 +4,22 @@ use mathlib.Core.Bool.{Bool, true, false, cond, not, _&&_}
 use mathlib.Core.List.{List, [], _∷_, _++_, append-nil}
 use mathlib.Core.Path.{_≡_, refl, ap, sym, _∙_}
 use native.Mathlib.Omega.{arith}
-use borrow.Author.Tests.{le-ltb}
+use borrow.Author.Tests.{le-ltb, ltb-false}
 use lib.Dec.{T, ltb}
-use lib.ListN.{length, length-append}
+use lib.ListN.{length, drop, drop-of-length-le, length-append}
 use Rattle.protocol.specs.declared.Rules.{Rules}
+use Rattle.protocol.specs.Bytes.{Bytes}
 use Rattle.protocol.specs.Decode.{closed, readBody}
 use Rattle.protocol.specs.Each.{Each, bytesOfEach, slotsOfEach, ableEach, HoldsEach}
-use Rattle.protocol.specs.Fields.{Atom, unsigned, signed, oneOf, text, value, rest, Field, one, counted, ended, Content, Slot, InRange, able, bytes, slot}
+use Rattle.protocol.specs.Fields.{Atom, unsigned, signed, oneOf, text, value, rest, AtomSlot, Field, one, counted, ended, Content, Slot, InRange, able, bytes, slot}
 use Rattle.protocol.specs.Kinds.{Kind}
 use Rattle.protocol.specs.Reading.{Read, got, bad, andThen, read, readEach}
+use Rattle.protocol.specs.Refusals.{bytesLeft}
 use Rattle.protocol.specs.WellFormed.{Contents, bodyBytes, AllInRange, allAble}
-use Rattle.laws.proofs.Atoms.{saneAtom, LastAtom, atom-back}
-use Rattle.laws.proofs.EachReads.{ReadsBack, AllReadBack, each-reads-back}
+use Rattle.laws.proofs.Atoms.{saneAtom, LastAtom, atom-back, AtomWas, atom-was}
+use Rattle.laws.proofs.EachReads.{ReadsBack, AllReadBack, each-reads-back, Was, AllWere, EachWas, each-was}
 use Rattle.laws.proofs.Items.{both, saneItem}
-use Rattle.laws.proofs.Lists.{counted-back, ended-back}
+use Rattle.laws.proofs.Lists.{counted-back, ended-back, FieldWas, counted-was, ended-was}
 use Rattle.laws.proofs.Table.{and-left, and-right}
 
 -- ---- what the bodies of the table are like: the rest of a frame stands only at its end
@@ -93,3 +95,46 @@ body-back rules k make c pre t r h =
     let e = each-reads-back bytes slot (read rules) (k .body) c pre [] (fields-back rules (k .body) c t r h) in
     let l : length (pre ++ b) ≤ length pre + length b = simp length-append (omega arith) in
     rw (rw (append-nil b) at e, le-ltb _ _ l) refl
+
+-- ---- what was read is fields
+
+module _ (rules : Rules) (f : List ℕ) (b : Bytes f) where
+  atom-field : (a : Atom) (p q : ℕ) (v : AtomSlot a) → AtomWas rules a f p v q → FieldWas rules (one a) f p v q
+  unfolding bytes slot InRange able
+  atom-field a p q v w = record { content = w .content; inRange = w .inRange; writable = w .writable; is = w .is; split = w .split; next = w .next; within = w .within }
+
+  pub field-was : (x : Field) → T (saneField x) → (p q : ℕ) (v : Slot x) → p ≤ length f → read rules x f p ≡ got v q → FieldWas rules x f p v q
+  field-was (one a) t p q v l e = atom-field a p q v (atom-was rules f b p a t v q l e)
+  field-was (counted k i) t p q v l e = counted-was rules i t f b p k v q e
+  field-was (ended i) t p q v l e = ended-was rules i t f b p l v q e
+
+  fields-were : (xs : List Field) → T (saneBody xs) → EachWas bytes slot (read rules) InRange (able rules) f xs
+  fields-were [] t = tt
+  fields-were (x ∷ []) t = (field-was x t, tt)
+  fields-were (x ∷ y ∷ ys) t =
+      let s = and-right (saneField x) (stops x && saneBody (y ∷ ys)) t in
+      (field-was x (and-left (saneField x) (stops x && saneBody (y ∷ ys)) t), fields-were (y ∷ ys) (and-right (stops x) (saneBody (y ∷ ys)) s))
+
+  -- a body that was read to the frame's end is the bytes of a right content
+  pub record BodyWas {X : Type 0} (k : Kind) (make : Each Slot (k .body) → X) (p : ℕ) (x : X) : Type 0 where
+    pub content : Contents k
+    pub inRange : AllInRange k content
+    pub writable : allAble rules k content ≡ true
+    pub is : x ≡ make (slotsOfEach bytes slot (k .body) p content)
+    pub split : drop p f ≡ bodyBytes k content
+
+  closed-by : {X : Type 0} (k : Kind) (make : Each Slot (k .body) → X) (p a : ℕ) (v : Each Slot (k .body)) (x : X) (q : ℕ) → AllWere bytes slot (read rules) InRange (able rules) (k .body) f p v a → (t : Bool) → ltb a (length f) ≡ t → cond t (bad bytesLeft a) (got (make v) a) ≡ got x q → BodyWas k make p x
+  unfolding bodyBytes
+  closed-by k make p a v x q w true t e = let z : _≡_ {A = ℕ} 0 1 = cc in absurd (omega arith)
+  closed-by k make p a v x q w false t e =
+      let ex : make v ≡ x = cc in
+      let end : length f ≤ a = ltb-false _ _ t in
+      record { content = w .content; inRange = w .inRange; writable = w .writable; is = sym ex ∙ ap make (w .is); split = w .split ∙ rw (drop-of-length-le f end) (append-nil (bytesOfEach bytes (k .body) (w .content))) }
+
+  body-by : {X : Type 0} (k : Kind) (make : Each Slot (k .body) → X) (p : ℕ) → T (saneBody (k .body)) → p ≤ length f → (x : X) (q : ℕ) (r : Read (Each Slot (k .body))) → readEach (read rules) (k .body) f p ≡ r → andThen r (λ v a. closed f a (make v)) ≡ got x q → BodyWas k make p x
+  unfolding closed
+  body-by k make p t l x q (bad n c) r e = let z : _≡_ {A = ℕ} 0 1 = cc in absurd (omega arith)
+  body-by k make p t l x q (got v a) r e = closed-by k make p a v x q (each-was bytes slot (read rules) InRange (able rules) f (k .body) p a v l (fields-were (k .body) t) r) (ltb a (length f)) refl e
+
+  pub body-was : {X : Type 0} (k : Kind) (make : Each Slot (k .body) → X) (p : ℕ) → T (saneBody (k .body)) → p ≤ length f → (x : X) (q : ℕ) → readBody rules k make f p ≡ got x q → BodyWas k make p x
+  body-was k make p t l x q e = body-by k make p t l x q (readEach (read rules) (k .body) f p) refl e

@@ -88,7 +88,7 @@ module _ (k : Kind) (b t : List ℕ) where
       let size : 1 ≡ length (k .tag ∷ b) = omega (arith, sane .alone) in
       record { tag = first; there = omega arith; after = ap (framed k 1) size }
 
-header-long : (e : Envelope) (tag n : ℕ) → length (header e tag n) ≡ bodyStart e
+pub header-long : (e : Envelope) (tag n : ℕ) → length (header e tag n) ≡ bodyStart e
 unfolding header
 header-long typed tag n = simp length-be refl
 header-long untyped tag n = simp (length-append, length-be) refl

@@ -18,8 +18,8 @@ use Rattle.protocol.specs.Fields.{Atom, unsigned, signed, oneOf, text, value, r
 use Rattle.protocol.specs.Reading.{Read, got, bad, andThen, readNumber, readAtom, readEach, readItem, passItems, countOf, countAt, readCount, readCounted, endedFrom, readEnded}
 use Rattle.protocol.proofs.Find.{every}
 use Rattle.protocol.proofs.Numbers.{lower}
-use Rattle.laws.proofs.Atoms.{saneAtom, LastAtom, atom-back, number-back, byte-back}
-use Rattle.laws.proofs.EachReads.{ReadsBack, AllReadBack, each-reads-back}
+use Rattle.laws.proofs.Atoms.{saneAtom, LastAtom, atom-back, number-back, byte-back, atom-was}
+use Rattle.laws.proofs.EachReads.{ReadsBack, AllReadBack, each-reads-back, AllWere, EachWas, each-was}
 use Rattle.laws.proofs.Numbers.{length-be, bytes-append}
 use Rattle.laws.proofs.Table.{and-left, and-right}
 
@@ -146,3 +146,55 @@ each-bytes bytes InRange h (x ∷ xs) c r = bytes-append (bytes x (c .0)) (bytes
 pub item-bytes : (i : Item) (c : ItemContent i) → ItemInRange i c → Bytes (itemBytes i c)
 unfolding itemBytes ItemInRange
 item-bytes i c r = each-bytes atomBytes AtomInRange atom-bytes (i .atoms) c r
+
+-- ---- what was read is items
+
+abbrev pub ItemWas : Rules → (i : Item) → List ℕ → ℕ → Each AtomSlot (i .atoms) → ℕ → Type 0
+ItemWas rules i f p v q = AllWere atomBytes atomSlot (readAtom rules) AtomInRange (atomAble rules) (i .atoms) f p v q
+
+-- n items stand from p to q
+pub record ItemsWere (rules : Rules) (i : Item) (f : List ℕ) (n p q : ℕ) : Type 0 where
+  pub contents : List (ItemContent i)
+  pub many : length contents ≡ n
+  pub inRange : ItemsInRange i contents
+  pub writable : itemsAble rules i contents ≡ true
+  pub split : drop p f ≡ itemsBytes i contents ++ drop q f
+  pub next : q ≡ p + length (itemsBytes i contents)
+  pub within : q ≤ length f
+
+module _ (rules : Rules) (i : Item) (sane : T (saneItem i)) (f : List ℕ) (b : Bytes f) where
+  atoms-were : (xs : List Atom) → T (every inItem xs) → EachWas atomBytes atomSlot (readAtom rules) AtomInRange (atomAble rules) f xs
+  atoms-were [] t = tt
+  atoms-were (a ∷ xs) t = (λ p q v l e. atom-was rules f b p a (in-item-sane a (and-left (inItem a) (every inItem xs) t)) v q l e, atoms-were xs (and-right (inItem a) (every inItem xs) t))
+
+  pub item-was : (p q : ℕ) (v : Each AtomSlot (i .atoms)) → p ≤ length f → readItem rules i f p ≡ got v q → ItemWas rules i f p v q
+  item-was p q v l e = each-was atomBytes atomSlot (readAtom rules) AtomInRange (atomAble rules) f (i .atoms) p q v l (atoms-were (i .atoms) (and-left (every inItem (i .atoms)) (leb 1 (itemLeast i)) sane)) e
+
+  -- none, and one before others
+  unfoldable pub no-items : (p : ℕ) → p ≤ length f → ItemsWere rules i f 0 p p
+  unfolding itemsBytes ItemsInRange itemsAble
+  no-items p l = record { contents = []; many = refl; inRange = tt; writable = refl; split = refl; next = omega arith; within = l }
+
+  unfoldable pub item-before : {n p a q : ℕ} {v : Each AtomSlot (i .atoms)} → ItemWas rules i f p v a → ItemsWere rules i f n a q → ItemsWere rules i f (suc n) p q
+  unfolding itemsBytes itemBytes ItemsInRange ItemInRange itemsAble itemAble
+  item-before h t =
+      let bs = itemBytes i (h .content) in
+      let lengths : length (bs ++ itemsBytes i (t .contents)) ≡ length bs + length (itemsBytes i (t .contents)) = length-append bs (itemsBytes i (t .contents)) in
+      record {
+        contents = h .content ∷ t .contents;
+        many = ap suc (t .many);
+        inRange = (h .inRange, t .inRange);
+        writable = rw (h .writable) (t .writable);
+        split = h .split ∙ rw (t .split, append-assoc bs (itemsBytes i (t .contents)) _) refl;
+        next = omega (arith, h .next, t .next, lengths);
+        within = t .within;
+      }
+
+  pass-by : (n p q : ℕ) → p ≤ length f → (r : Read (Each AtomSlot (i .atoms))) → readItem rules i f p ≡ r → ((a : ℕ) → a ≤ length f → passItems rules i n f a ≡ got tt q → ItemsWere rules i f n a q) → andThen r (λ s a. passItems rules i n f a) ≡ got tt q → ItemsWere rules i f (suc n) p q
+  pass-by n p q l (bad k x) r ih e = let z : _≡_ {A = ℕ} 0 1 = cc in absurd (omega arith)
+  pass-by n p q l (got v a) r ih e = let h = item-was p a v l r in item-before h (ih a (h .within) e)
+
+  pub pass-was : (n p q : ℕ) → p ≤ length f → passItems rules i n f p ≡ got tt q → ItemsWere rules i f n p q
+  unfolding passItems
+  pass-was zero p q l e = let z : p ≡ q = cc in rw (← z) (no-items p l)
+  pass-was (suc n) p q l e = pass-by n p q l (readItem rules i f p) refl (λ a m r. pass-was n a q m r) e

@@ -6,6 +6,8 @@ pub mod Lists
 pub mod Bodies
 pub mod Rows
 pub mod Complete
+pub mod Sound
+pub mod Fields
 pub mod Edges
 pub mod Table
 pub mod Headers
