@@ -16,6 +16,7 @@ use Rattle.protocol.specs.Kinds.{Kind}
 use Rattle.protocol.specs.Reading.{Read, got, bad, andThen, read, readEach}
 use Rattle.protocol.specs.Refusals.{bytesLeft}
 use Rattle.protocol.specs.WellFormed.{Contents, bodyBytes, AllInRange, allAble}
+use Rattle.protocol.proofs.Find.{every}
 use Rattle.laws.proofs.Atoms.{saneAtom, LastAtom, atom-back, AtomWas, atom-was}
 use Rattle.laws.proofs.EachReads.{ReadsBack, AllReadBack, each-reads-back, Was, AllWere, EachWas, each-was}
 use Rattle.laws.proofs.Items.{both, saneItem}
@@ -40,10 +41,10 @@ stops (one rest) = false
 stops (counted k i) = true
 stops (ended i) = true
 
-abbrev pub saneBody : List Field → Bool
-saneBody [] = true
-saneBody (x ∷ []) = saneField x
-saneBody (x ∷ y ∷ ys) = saneField x && (stops x && saneBody (y ∷ ys))
+abbrev pub restLast : List Field → Bool
+restLast [] = true
+restLast (x ∷ []) = true
+restLast (x ∷ y ∷ ys) = stops x && restLast (y ∷ ys)
 
 abbrev LastField : Field → List ℕ → Type 0
 LastField (one a) post = LastAtom a post
@@ -78,21 +79,21 @@ field-back rules (one a) c post t r h l pre = atom-back rules a c post t r h l p
 field-back rules (counted k i) cs post t r h l pre = counted-back rules i t k cs pre post r h
 field-back rules (ended i) cs post t r h l pre = ended-back rules i t cs pre post r h
 
-fields-back : (rules : Rules) (xs : List Field) (c : Each Content xs) → T (saneBody xs) → HoldsEach InRange xs c → ableEach (able rules) xs c ≡ true → AllReadBack bytes slot (read rules) xs c []
+fields-back : (rules : Rules) (xs : List Field) (c : Each Content xs) → T (every saneField xs) → T (restLast xs) → HoldsEach InRange xs c → ableEach (able rules) xs c ≡ true → AllReadBack bytes slot (read rules) xs c []
 unfolding HoldsEach ableEach bytesOfEach
-fields-back rules [] c t r h = tt
-fields-back rules (x ∷ []) c t r h = (field-back rules x (c .0) [] t (r .0) (both _ _ h .0) (last-nothing x), tt)
-fields-back rules (x ∷ y ∷ ys) c t r h =
-    let s = and-right (saneField x) (stops x && saneBody (y ∷ ys)) t in
+fields-back rules [] c t s r h = tt
+fields-back rules (x ∷ []) c t s r h = (field-back rules x (c .0) [] (and-left (saneField x) true t) (r .0) (both _ _ h .0) (last-nothing x), tt)
+fields-back rules (x ∷ y ∷ ys) c t s r h =
     let b = both _ _ h in
-    (field-back rules x (c .0) _ (and-left (saneField x) (stops x && saneBody (y ∷ ys)) t) (r .0) (b .0) (last-stops x _ (and-left (stops x) (saneBody (y ∷ ys)) s)), fields-back rules (y ∷ ys) (c .1) (and-right (stops x) (saneBody (y ∷ ys)) s) (r .1) (b .1))
+    let first = field-back rules x (c .0) _ (and-left (saneField x) (every saneField (y ∷ ys)) t) (r .0) (b .0) (last-stops x _ (and-left (stops x) (restLast (y ∷ ys)) s)) in
+    (first, fields-back rules (y ∷ ys) (c .1) (and-right (saneField x) (every saneField (y ∷ ys)) t) (and-right (stops x) (restLast (y ∷ ys)) s) (r .1) (b .1))
 
 -- a body's bytes, up to the frame's end, are read as its content
-pub body-back : {X : Type 0} (rules : Rules) (k : Kind) (make : Each Slot (k .body) → X) (c : Contents k) (pre : List ℕ) → T (saneBody (k .body)) → AllInRange k c → allAble rules k c ≡ true → readBody rules k make (pre ++ bodyBytes k c) (length pre) ≡ got (make (slotsOfEach bytes slot (k .body) (length pre) c)) (length pre + length (bodyBytes k c))
+pub body-back : {X : Type 0} (rules : Rules) (k : Kind) (make : Each Slot (k .body) → X) (c : Contents k) (pre : List ℕ) → T (every saneField (k .body)) → T (restLast (k .body)) → AllInRange k c → allAble rules k c ≡ true → readBody rules k make (pre ++ bodyBytes k c) (length pre) ≡ got (make (slotsOfEach bytes slot (k .body) (length pre) c)) (length pre + length (bodyBytes k c))
 unfolding bodyBytes closed
-body-back rules k make c pre t r h =
+body-back rules k make c pre t s r h =
     let b = bytesOfEach bytes (k .body) c in
-    let e = each-reads-back bytes slot (read rules) (k .body) c pre [] (fields-back rules (k .body) c t r h) in
+    let e = each-reads-back bytes slot (read rules) (k .body) c pre [] (fields-back rules (k .body) c t s r h) in
     let l : length (pre ++ b) ≤ length pre + length b = simp length-append (omega arith) in
     rw (rw (append-nil b) at e, le-ltb _ _ l) refl
 
@@ -108,12 +109,9 @@ module _ (rules : Rules) (f : List ℕ) (b : Bytes f) where
   field-was (counted k i) t p q v l e = counted-was rules i t f b p k v q e
   field-was (ended i) t p q v l e = ended-was rules i t f b p l v q e
 
-  fields-were : (xs : List Field) → T (saneBody xs) → EachWas bytes slot (read rules) InRange (able rules) f xs
+  fields-were : (xs : List Field) → T (every saneField xs) → EachWas bytes slot (read rules) InRange (able rules) f xs
   fields-were [] t = tt
-  fields-were (x ∷ []) t = (field-was x t, tt)
-  fields-were (x ∷ y ∷ ys) t =
-      let s = and-right (saneField x) (stops x && saneBody (y ∷ ys)) t in
-      (field-was x (and-left (saneField x) (stops x && saneBody (y ∷ ys)) t), fields-were (y ∷ ys) (and-right (stops x) (saneBody (y ∷ ys)) s))
+  fields-were (x ∷ xs) t = (field-was x (and-left (saneField x) (every saneField xs) t), fields-were xs (and-right (saneField x) (every saneField xs) t))
 
   -- a body that was read to the frame's end is the bytes of a right content
   pub record BodyWas {X : Type 0} (k : Kind) (make : Each Slot (k .body) → X) (p : ℕ) (x : X) : Type 0 where
@@ -131,10 +129,10 @@ module _ (rules : Rules) (f : List ℕ) (b : Bytes f) where
       let end : length f ≤ a = ltb-false _ _ t in
       record { content = w .content; inRange = w .inRange; writable = w .writable; is = sym ex ∙ ap make (w .is); split = w .split ∙ rw (drop-of-length-le f end) (append-nil (bytesOfEach bytes (k .body) (w .content))) }
 
-  body-by : {X : Type 0} (k : Kind) (make : Each Slot (k .body) → X) (p : ℕ) → T (saneBody (k .body)) → p ≤ length f → (x : X) (q : ℕ) (r : Read (Each Slot (k .body))) → readEach (read rules) (k .body) f p ≡ r → andThen r (λ v a. closed f a (make v)) ≡ got x q → BodyWas k make p x
+  body-by : {X : Type 0} (k : Kind) (make : Each Slot (k .body) → X) (p : ℕ) → T (every saneField (k .body)) → p ≤ length f → (x : X) (q : ℕ) (r : Read (Each Slot (k .body))) → readEach (read rules) (k .body) f p ≡ r → andThen r (λ v a. closed f a (make v)) ≡ got x q → BodyWas k make p x
   unfolding closed
   body-by k make p t l x q (bad n c) r e = let z : _≡_ {A = ℕ} 0 1 = cc in absurd (omega arith)
   body-by k make p t l x q (got v a) r e = closed-by k make p a v x q (each-was bytes slot (read rules) InRange (able rules) f (k .body) p a v l (fields-were (k .body) t) r) (ltb a (length f)) refl e
 
-  pub body-was : {X : Type 0} (k : Kind) (make : Each Slot (k .body) → X) (p : ℕ) → T (saneBody (k .body)) → p ≤ length f → (x : X) (q : ℕ) → readBody rules k make f p ≡ got x q → BodyWas k make p x
+  pub body-was : {X : Type 0} (k : Kind) (make : Each Slot (k .body) → X) (p : ℕ) → T (every saneField (k .body)) → p ≤ length f → (x : X) (q : ℕ) → readBody rules k make f p ≡ got x q → BodyWas k make p x
   body-was k make p t l x q e = body-by k make p t l x q (readEach (read rules) (k .body) f p) refl e

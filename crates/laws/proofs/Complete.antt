@@ -105,5 +105,5 @@ complete rules m k c t w =
     let sane = row-sane m (w .known) k (w .kind) in
     let r = told k b t e sane (large-enough rules m k c w) (w .withinLimit) in
     let found = kind-found m (w .known) (k .tag) k .1 (w .kind, refl) in
-    let body = rw (header-long e (k .tag) (length b)) at (body-back rules k (k .message) c h (sane .body) (w .inRange) (w .writable)) in
+    let body = rw (header-long e (k .tag) (length b)) at (body-back rules k (k .message) c h (sane .fields) (sane .last) (w .inRange) (w .writable)) in
     rw (mode-found rules m .1 (w .known, w .mode), header-is e, r .tag, found, le-ltb _ _ (r .there), r .after, take-append-seam (h ++ b) t, body) refl

@@ -8,6 +8,8 @@ pub mod Rows
 pub mod Complete
 pub mod Sound
 pub mod Fields
+pub mod Faults
+pub mod Refusals
 pub mod Edges
 pub mod Table
 pub mod Headers

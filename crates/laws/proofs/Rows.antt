@@ -9,7 +9,7 @@ use Rattle.protocol.specs.Fields.{itemLeast}
 use Rattle.protocol.specs.Kinds.{Envelope, typed, untyped, bare, Kind, Mode, modes, IsIn}
 use Rattle.protocol.proofs.Find.{every}
 use Rattle.protocol.proofs.Open.{the-table}
-use Rattle.laws.proofs.Bodies.{saneBody}
+use Rattle.laws.proofs.Bodies.{saneField, restLast}
 use Rattle.laws.proofs.Table.{and-left, and-right, every-in}
 
 -- how many bytes a tag has
@@ -33,11 +33,18 @@ alone bare k = eqb (k .limit) 1
 pub record Sane (e : Envelope) (k : Kind) : Type 0 where
   pub tag : k .tag < 256 ^ tagWidth e
   pub limit : k .limit < 256 ^ 4 / 2
-  pub body : T (saneBody (k .body))
+  pub fields : T (every saneField (k .body))
+  pub last : T (restLast (k .body))
   pub alone : Alone e k
 
+abbrev saneHeader : Envelope → Kind → Bool
+saneHeader e k = ltb (k .tag) (256 ^ tagWidth e) && ltb (k .limit) (256 ^ 4 / 2)
+
+abbrev saneBody : Kind → Bool
+saneBody k = every saneField (k .body) && restLast (k .body)
+
 abbrev saneKind : Envelope → Kind → Bool
-saneKind e k = ltb (k .tag) (256 ^ tagWidth e) && (ltb (k .limit) (256 ^ 4 / 2) && (saneBody (k .body) && alone e k))
+saneKind e k = (saneHeader e k && alone e k) && saneBody k
 
 abbrev saneMode : Mode → Bool
 saneMode m = every (saneKind (m .envelope)) (m .kinds)
@@ -53,13 +60,15 @@ is-alone bare k t = eqb→eq _ _ t
 
 sane-by : (e : Envelope) (k : Kind) → T (saneKind e k) → Sane e k
 sane-by e k t =
-    let t1 = and-right (ltb (k .tag) (256 ^ tagWidth e)) (ltb (k .limit) (256 ^ 4 / 2) && (saneBody (k .body) && alone e k)) t in
-    let t2 = and-right (ltb (k .limit) (256 ^ 4 / 2)) (saneBody (k .body) && alone e k) t1 in
+    let outer = and-left (saneHeader e k && alone e k) (saneBody k) t in
+    let header = and-left (saneHeader e k) (alone e k) outer in
+    let body = and-right (saneHeader e k && alone e k) (saneBody k) t in
     record {
-      tag = ltb→lt _ _ (and-left (ltb (k .tag) (256 ^ tagWidth e)) (ltb (k .limit) (256 ^ 4 / 2) && (saneBody (k .body) && alone e k)) t);
-      limit = ltb→lt _ _ (and-left (ltb (k .limit) (256 ^ 4 / 2)) (saneBody (k .body) && alone e k) t1);
-      body = and-left (saneBody (k .body)) (alone e k) t2;
-      alone = is-alone e k (and-right (saneBody (k .body)) (alone e k) t2);
+      tag = ltb→lt _ _ (and-left (ltb (k .tag) (256 ^ tagWidth e)) (ltb (k .limit) (256 ^ 4 / 2)) header);
+      limit = ltb→lt _ _ (and-right (ltb (k .tag) (256 ^ tagWidth e)) (ltb (k .limit) (256 ^ 4 / 2)) header);
+      alone = is-alone e k (and-right (saneHeader e k) (alone e k) outer);
+      fields = and-left (every saneField (k .body)) (restLast (k .body)) body;
+      last = and-right (every saneField (k .body)) (restLast (k .body)) body;
     }
 
 pub row-sane : (m : Mode) → IsIn m modes → (k : Kind) → IsIn k (m .kinds) → Sane (m .envelope) k

@@ -70,7 +70,7 @@ module _ (rules : Rules) (s : List ℕ) (b : Bytes s) where
       let kind = kind-found (h .mode) (mode .0) (tagAt env s) k .0 (h .tag) in
       let sane = row-sane (h .mode) (mode .0) k (kind .0) in
       let long : length f ≡ end = length-take-le end s (ends .1) in
-      let w = body-was rules f (bytes-take end s b) k (k .message) (bodyStart env) (sane .body) (omega (arith, ends .0)) r q (rw (h .starts) at e) in
+      let w = body-was rules f (bytes-take end s b) k (k .message) (bodyStart env) (sane .fields) (omega (arith, ends .0)) r q (rw (h .starts) at e) in
       let body = bodyBytes k (w .content) in
       let size : end ≡ bodyStart env + length body = omega (arith, simp length-drop at (ap length (w .split)), ends .0) in
       let header = header-was s b k end (length body) env sane (kind .1) (h .framing) size in
