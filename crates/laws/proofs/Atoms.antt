@@ -1,25 +1,25 @@
 -- Each sort of atom: its bytes are read as it, and what was read is its bytes.
-use Prim.Native.Nat.{ℕ, zero, suc, _+_, _-_, _*_, _/_, _%_, _^_, _≤_, _<_}
-use mathlib.Core.Bool.{Bool, true, false, cond, not, _&&_, _||_, false≢true}
+use Prim.Native.Nat.{ℕ, zero, suc, _+_, _-_, _/_, _%_, _^_, _≤_, _<_}
+use mathlib.Core.Bool.{Bool, true, false, cond, not, _&&_, false≢true}
 use mathlib.Core.List.{List, [], _∷_, _++_, append-assoc, append-nil}
 use mathlib.Core.Option.{Option, some, none}
 use mathlib.Core.Path.{_≡_, refl, ap, sym, _∙_}
 use native.Mathlib.Omega.{arith}
-use borrow.Author.Tests.{le-leb, lt-leb, lt-ltb, le-ltb, eq-eqb, ne-eqb, leb-true, eqb-true, eqb-false}
+use borrow.Author.Tests.{le-leb, leb-true, eqb-true}
 use lib.Dec.{T, leb, eqb}
 use lib.IntN.{ℤ, pos, negsuc}
 use lib.ListN.{length, take, drop, length-append, length-drop, take-append-drop}
-use lib.Seq.{drop-append-seam, take-at, drop-at, drop-drop, length-take-le, drop-length}
+use lib.Seq.{drop-append-seam, drop-drop, length-take-le, drop-length}
 use lib.Signed.{mag}
 use Rattle.protocol.specs.declared.Rules.{Rules}
 use Rattle.protocol.specs.declared.Span.{Span}
-use Rattle.protocol.specs.Bytes.{Bytes, noZero, isOneOf, numberFrom, numberAt, be, signedOf, bitsOf}
+use Rattle.protocol.specs.Bytes.{Bytes, noZero, isOneOf, be, signedOf, bitsOf}
 use Rattle.protocol.specs.Fields.{Atom, unsigned, signed, oneOf, text, value, rest, AtomContent, AtomSlot, ValueInRange, AtomInRange, atomAble, valueBytes, atomBytes, valueSlot, atomSlot}
 use Rattle.protocol.specs.Reading.{Read, got, bad, andThen, readNumber, oneMore, zeroIn, textAt, readText, valueAt, readValue, readAtom}
 use Rattle.protocol.specs.Refusals.{cut, notAllowed}
-use Rattle.protocol.proofs.Numbers.{lower, upper, Whole, whole}
+use Rattle.protocol.proofs.Numbers.{lower, whole}
 use Rattle.laws.proofs.EachReads.{ReadsBack, Was}
-use Rattle.laws.proofs.Numbers.{bytes-take, bytes-drop, length-be, numberFrom-be, at-be, be-at, number-at-below, bits-below, signed-bits, signed-in-range, bits-signed}
+use Rattle.laws.proofs.Numbers.{bytes-take, bytes-drop, length-be, at-be, be-at, number-at-below, bits-below, signed-bits, signed-in-range, bits-signed}
 
 -- a signed number of no bytes has no range; the table has none
 abbrev pub saneAtom : Atom → Bool

@@ -1,6 +1,6 @@
 -- Fields and bodies: their bytes are read as them. A body's fields are read one after the other, so a law of each field is one of every body.
-use Prim.Native.Nat.{ℕ, zero, suc, _+_, _≤_, _<_}
-use mathlib.Core.Bool.{Bool, true, false, cond, not, _&&_}
+use Prim.Native.Nat.{ℕ, _+_, _≤_}
+use mathlib.Core.Bool.{Bool, true, false, cond, _&&_}
 use mathlib.Core.List.{List, [], _∷_, _++_, append-nil}
 use mathlib.Core.Path.{_≡_, refl, ap, sym, _∙_}
 use native.Mathlib.Omega.{arith}
@@ -18,7 +18,7 @@ use Rattle.protocol.specs.Refusals.{bytesLeft}
 use Rattle.protocol.specs.WellFormed.{Contents, bodyBytes, AllInRange, allAble}
 use Rattle.protocol.proofs.Find.{every}
 use Rattle.laws.proofs.Atoms.{saneAtom, LastAtom, atom-back, AtomWas, atom-was}
-use Rattle.laws.proofs.EachReads.{ReadsBack, AllReadBack, each-reads-back, Was, AllWere, EachWas, each-was}
+use Rattle.laws.proofs.EachReads.{ReadsBack, AllReadBack, each-reads-back, AllWere, EachWas, each-was}
 use Rattle.laws.proofs.Items.{both, saneItem}
 use Rattle.laws.proofs.Lists.{counted-back, ended-back, FieldWas, counted-was, ended-was}
 use Rattle.laws.proofs.Table.{and-left, and-right}

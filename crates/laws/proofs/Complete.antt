@@ -1,18 +1,16 @@
 -- Law 2: every well-formed frame, followed by any bytes, is accepted, with its record, and exactly its own bytes are consumed.
-use Prim.Native.Nat.{ℕ, zero, suc, _+_, _≤_, _<_}
-use mathlib.Core.Bool.{Bool, true, false, cond}
+use Prim.Native.Nat.{ℕ, _+_, _≤_}
 use mathlib.Core.List.{List, [], _∷_, _++_, append-assoc}
-use mathlib.Core.Option.{Option, some, none}
-use mathlib.Core.Path.{_≡_, refl, ap, sym, _∙_}
+use mathlib.Core.Option.{some}
+use mathlib.Core.Path.{_≡_, refl, ap, _∙_}
 use native.Mathlib.Omega.{arith}
 use borrow.Author.Tests.{le-ltb}
-use lib.Dec.{ltb}
 use lib.IntN.{pos}
-use lib.ListN.{length, take, length-append}
+use lib.ListN.{length, length-append}
 use lib.Seq.{take-append-seam}
 use Rattle.protocol.specs.declared.Rules.{Rules}
-use Rattle.protocol.specs.Bytes.{numberAt, be, signedOf}
-use Rattle.protocol.specs.Decode.{Header, more, refuse, framed, lengthBy, typedBy, untypedBy, bareBy, tagAt, headerBy, headerOf, decodedBy, decodeBy, decodeOf}
+use Rattle.protocol.specs.Bytes.{numberAt, be}
+use Rattle.protocol.specs.Decode.{framed, lengthBy, typedBy, untypedBy, bareBy, tagAt, headerBy, headerOf, decodedBy, decodeBy, decodeOf}
 use Rattle.protocol.specs.Fields.{Field, Content, bytes, least, one, counted, ended}
 use Rattle.protocol.specs.Kinds.{Envelope, typed, untyped, bare, Kind, Mode}
 use Rattle.protocol.specs.WellFormed.{Contents, bodyBytes, lengthOf, header, bodyStart, frame, WellFormed, recordOf}

@@ -1,12 +1,12 @@
 -- What was refused has the fault that document 01 names, after right contents: for atoms, items, lists and fields.
-use Prim.Native.Nat.{ℕ, zero, suc, _+_, _-_, _*_, _≤_, _<_, _^_}
+use Prim.Native.Nat.{ℕ, zero, suc, _+_, _-_, _*_, _≤_, _<_}
 use mathlib.Core.Bool.{Bool, true, false, cond, not, _&&_}
-use mathlib.Core.List.{List, [], _∷_, _++_}
+use mathlib.Core.List.{List, [], _∷_}
 use mathlib.Core.Logic.{_⊎_, inl, inr}
 use mathlib.Core.Option.{Option, some, none}
 use mathlib.Core.Path.{_≡_, refl, ap, sym, _∙_}
 use native.Mathlib.Omega.{arith}
-use borrow.Author.Tests.{leb-true, leb-false, eqb-true, eqb-false}
+use borrow.Author.Tests.{leb-false, eqb-false}
 use lib.Dec.{T, leb, leb→le, eqb}
 use lib.IntN.{ℤ, pos, negsuc}
 use lib.ListN.{length, drop, length-drop, drop-of-length-le}
@@ -16,16 +16,16 @@ use Rattle.protocol.specs.declared.Rules.{Rules}
 use Rattle.protocol.specs.declared.Span.{Span}
 use Rattle.protocol.specs.Bytes.{Bytes, noZero, isOneOf, numberAt, signedOf}
 use Rattle.protocol.specs.Each.{Each}
-use Rattle.protocol.specs.Fields.{Atom, unsigned, signed, oneOf, text, value, rest, AtomSlot, AtomInRange, atomAble, atomBytes, atomSlot, Item, itemBytes, itemLeast, itemsBytes, Count, Field, one, counted, ended, Slot}
+use Rattle.protocol.specs.Fields.{Atom, unsigned, signed, oneOf, text, value, rest, AtomSlot, atomBytes, Item, itemBytes, itemLeast, itemsBytes, Count, Field, one, counted, ended}
 use Rattle.protocol.specs.Reading.{Read, got, bad, andThen, readNumber, oneMore, zeroIn, textAt, readText, valueAt, readValue, readAtom, readEach, readItem, passItems, countOf, countAt, readCount, readCounted, endedFrom, readEnded, read}
 use Rattle.protocol.specs.Refusals.{badCount, cut, notAllowed}
 use Rattle.protocol.proofs.Counts.{Counted, counted-is}
 use Rattle.protocol.proofs.Find.{every}
-use Rattle.protocol.proofs.Numbers.{whole, not-whole}
-use Rattle.laws.specs.Faults.{Short, NotOneOf, Unended, BelowNull, LongValue, AtomFault, AtomBefore, AtomsFault, here, later, ItemsBefore, CountFault, ItemFault, EndedFault, FieldFault}
+use Rattle.protocol.proofs.Numbers.{whole}
+use Rattle.laws.specs.Faults.{Short, NotOneOf, Unended, BelowNull, LongValue, AtomFault, AtomBefore, AtomsFault, here, later, ItemsBefore, CountFault, ItemFault, FieldFault}
 use Rattle.laws.proofs.Atoms.{saneAtom, AtomWas, atom-was}
 use Rattle.laws.proofs.Bodies.{saneField}
-use Rattle.laws.proofs.Items.{inItem, in-item-sane, saneItem, item-least, ItemWas, item-was, ItemsWere, no-items, item-before}
+use Rattle.laws.proofs.Items.{inItem, in-item-sane, saneItem, item-least, item-was, ItemsWere, no-items, item-before}
 use Rattle.laws.proofs.Lists.{EndedWere, ended-none, ended-item}
 use Rattle.laws.proofs.Table.{and-left, and-right}
 

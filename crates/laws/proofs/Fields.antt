@@ -1,20 +1,18 @@
 -- Law 3: the part of the buffer at each of a record's positions is that field's content, and a list's start and count are its content's.
 use Prim.Native.Nat.{ℕ, _+_, _≤_}
-use mathlib.Core.Bool.{false, cond}
-use mathlib.Core.List.{List, [], _∷_, _++_, append-assoc, append-nil}
-use mathlib.Core.Option.{Option, some, none}
-use mathlib.Core.Path.{_≡_, refl, ap, sym, _∙_}
+use mathlib.Core.List.{List, [], _∷_, _++_, append-assoc}
+use mathlib.Core.Option.{some, none}
+use mathlib.Core.Path.{_≡_, refl, sym, _∙_}
 use native.Mathlib.Omega.{arith}
 use borrow.Author.Tests.{le-ltb}
-use lib.Dec.{ltb}
-use lib.ListN.{length, take, drop, length-append, take-append-drop}
+use lib.ListN.{length, drop, length-append, take-append-drop}
 use lib.Seq.{drop-append-seam, take-append-seam}
 use Rattle.protocol.specs.Bytes.{partOf, be}
 use Rattle.protocol.specs.Each.{Each, bytesOfEach, slotsOfEach}
 use Rattle.protocol.specs.Fields.{Atom, unsigned, signed, oneOf, text, value, rest, AtomContent, valueBytes, atomBytes, valueSlot, atomSlot, Field, one, counted, ended, Content, bytes, slot}
 use Rattle.protocol.specs.WellFormed.{bodyBytes, header, bodyStart, frame, recordOf}
 use Rattle.laws.specs.Places.{ValuePlaced, AtomPlaced, FieldPlaced, FieldsPlaced}
-use Rattle.laws.specs.Statements.{Accepted, Placed, Fields, theDecoder}
+use Rattle.laws.specs.Statements.{Fields, theDecoder}
 use Rattle.laws.proofs.Complete.{header-long}
 use Rattle.laws.proofs.Numbers.{length-be}
 use Rattle.laws.proofs.Sound.{sound}

@@ -1,25 +1,20 @@
 -- Items and lists of them: their bytes are read as them.
-use Prim.Native.Nat.{ℕ, zero, suc, _+_, _-_, _*_, _/_, _%_, _^_, _≤_, _<_}
-use mathlib.Core.Bool.{Bool, true, false, cond, not, _&&_, false≢true}
-use mathlib.Core.List.{List, [], _∷_, _++_, append-assoc, append-nil}
-use mathlib.Core.Option.{Option, some, none}
-use mathlib.Core.Path.{_≡_, refl, ap, sym, _∙_}
+use Prim.Native.Nat.{ℕ, zero, suc, _+_, _*_, _/_, _%_, _≤_}
+use mathlib.Core.Bool.{Bool, true, false, _&&_, false≢true}
+use mathlib.Core.List.{List, [], _∷_, _++_, append-assoc}
+use mathlib.Core.Option.{some, none}
+use mathlib.Core.Path.{_≡_, refl, ap, _∙_}
 use native.Mathlib.Omega.{arith}
-use borrow.Author.Tests.{le-leb, leb-true, not-true, not-false, ne-eqb, eqb-false}
-use lib.Dec.{T, leb, leb→le, eqb}
-use lib.IntN.{ℤ, pos, negsuc}
-use lib.ListN.{length, take, drop, length-append}
-use lib.Seq.{drop-append-seam}
-use Rattle.protocol.specs.declared.List.{List as ListSlot}
+use lib.Dec.{T, leb}
+use lib.ListN.{length, drop, length-append}
 use Rattle.protocol.specs.declared.Rules.{Rules}
-use Rattle.protocol.specs.Bytes.{Bytes, numberFrom, numberAt, be, signedOf, bitsOf}
-use Rattle.protocol.specs.Each.{Each, bytesOfEach, slotsOfEach, ableEach, HoldsEach, leastOfEach}
-use Rattle.protocol.specs.Fields.{Atom, unsigned, signed, oneOf, text, value, rest, AtomContent, AtomSlot, ValueInRange, AtomInRange, atomAble, valueBytes, atomBytes, atomSlot, atomLeast, Item, ItemContent, ItemInRange, itemAble, itemBytes, itemSlots, itemLeast, itemsBytes, ItemsInRange, itemsAble, zeroFirst, noneEnds, Count, signedCount, most}
-use Rattle.protocol.specs.Reading.{Read, got, bad, andThen, readNumber, readAtom, readEach, readItem, passItems, countOf, countAt, readCount, readCounted, endedFrom, readEnded}
+use Rattle.protocol.specs.Bytes.{Bytes, be}
+use Rattle.protocol.specs.Each.{Each, bytesOfEach, ableEach, HoldsEach, leastOfEach}
+use Rattle.protocol.specs.Fields.{Atom, unsigned, signed, oneOf, text, value, rest, AtomContent, AtomSlot, ValueInRange, AtomInRange, atomAble, valueBytes, atomBytes, atomSlot, atomLeast, Item, ItemContent, ItemInRange, itemAble, itemBytes, itemSlots, itemLeast, itemsBytes, ItemsInRange, itemsAble}
+use Rattle.protocol.specs.Reading.{Read, got, bad, andThen, readAtom, readItem, passItems}
 use Rattle.protocol.proofs.Find.{every}
-use Rattle.protocol.proofs.Numbers.{lower}
-use Rattle.laws.proofs.Atoms.{saneAtom, LastAtom, atom-back, number-back, byte-back, atom-was}
-use Rattle.laws.proofs.EachReads.{ReadsBack, AllReadBack, each-reads-back, AllWere, EachWas, each-was}
+use Rattle.laws.proofs.Atoms.{saneAtom, LastAtom, atom-back, atom-was}
+use Rattle.laws.proofs.EachReads.{AllReadBack, each-reads-back, AllWere, EachWas, each-was}
 use Rattle.laws.proofs.Numbers.{length-be, bytes-append}
 use Rattle.laws.proofs.Table.{and-left, and-right}
 

@@ -1,29 +1,29 @@
 -- Lists: a count and so many items, or items and a zero byte. Their bytes are read as them.
 use Prim.Native.Nat.{ℕ, zero, suc, _+_, _-_, _*_, _/_, _^_, _≤_, _<_}
-use mathlib.Core.Bool.{Bool, true, false, cond, not, _&&_, false≢true}
-use mathlib.Core.List.{List, [], _∷_, _++_, append-assoc, append-nil}
+use mathlib.Core.Bool.{Bool, true, false, cond, _&&_}
+use mathlib.Core.List.{List, [], _∷_, _++_, append-assoc}
 use mathlib.Core.Path.{_≡_, refl, ap, sym, _∙_}
 use native.Mathlib.Nat.{mul-le-mul-left}
 use native.Mathlib.Omega.{arith}
-use borrow.Author.Tests.{le-leb, leb-true, not-true, eqb-true, ne-eqb, eqb-false}
+use borrow.Author.Tests.{le-leb, leb-true, not-true, eqb-true}
 use lib.Dec.{T, leb, leb→le, eqb}
-use lib.IntN.{ℤ, pos, negsuc}
+use lib.IntN.{pos}
 use lib.ListN.{length, drop, length-append}
 use lib.Signed.{mag}
 use Rattle.protocol.specs.declared.List.{List as ListSlot}
 use Rattle.protocol.specs.declared.Rules.{Rules}
-use Rattle.protocol.specs.Bytes.{Bytes, numberFrom, numberAt, be, signedOf, bitsOf}
+use Rattle.protocol.specs.Bytes.{Bytes, be, signedOf, bitsOf}
 use Rattle.protocol.specs.Each.{Each}
-use Rattle.protocol.specs.Fields.{AtomSlot, Item, ItemContent, ItemInRange, itemAble, itemBytes, itemLeast, itemsBytes, ItemsInRange, itemsAble, zeroFirst, noneEnds, Count, signedCount, most, Field, counted, ended, Slot, InRange, able, bytes, slot}
+use Rattle.protocol.specs.Fields.{AtomSlot, Item, ItemContent, itemBytes, itemLeast, itemsBytes, ItemsInRange, itemsAble, zeroFirst, noneEnds, Count, signedCount, most, Field, counted, ended, Slot, InRange, able, bytes, slot}
 use Rattle.protocol.specs.Reading.{Read, got, bad, andThen, readNumber, readItem, passItems, countOf, countAt, readCount, readCounted, endedFrom, readEnded, read}
 use Rattle.protocol.proofs.Counts.{Counted, counted-is}
 use Rattle.protocol.proofs.Find.{every}
 use Rattle.protocol.proofs.Numbers.{lower}
-use Rattle.laws.proofs.Atoms.{byte-be, number-back, byte-back, NumberWas, number-was}
+use Rattle.laws.proofs.Atoms.{byte-be, number-back, byte-back, number-was}
 use Rattle.laws.proofs.EachReads.{Was}
 use Rattle.laws.proofs.Items.{both, inItem, saneItem, item-bytes, item-back, pass-back, item-least, items-least, ItemWas, ItemsWere, item-was, no-items, item-before, pass-was}
-use Rattle.laws.proofs.Numbers.{length-be, bytes-append, signed-in-range, bits-signed}
-use Rattle.laws.proofs.Table.{and-left, and-right}
+use Rattle.laws.proofs.Numbers.{length-be, signed-in-range, bits-signed}
+use Rattle.laws.proofs.Table.{and-right}
 
 -- a count that can be written has two bytes and is read as it is
 pub count-back : (k : Count) (n : ℕ) → n ≤ most k → (n < 256 ^ 2) × (countOf k n ≡ pos n)

@@ -1,11 +1,11 @@
 -- Law 7: a refusal names its fault. One from 5 to 8 has right contents before it, up to its place, and there the fault that document 01's table
 -- names; one from 1 to 4 does so of the header.
-use Prim.Native.Nat.{ℕ, zero, suc, _+_, _≤_, _<_}
-use mathlib.Core.Bool.{Bool, true, false, cond, _&&_}
-use mathlib.Core.List.{List, [], _∷_, _++_}
+use Prim.Native.Nat.{ℕ, _+_, _≤_}
+use mathlib.Core.Bool.{Bool, true, false, cond}
+use mathlib.Core.List.{List, [], _∷_}
 use mathlib.Core.Logic.{_⊎_, inl, inr}
 use mathlib.Core.Option.{Option, some, none}
-use mathlib.Core.Path.{_≡_, refl, ap, sym, _∙_}
+use mathlib.Core.Path.{_≡_, refl, sym, _∙_}
 use native.Mathlib.Omega.{arith}
 use borrow.Author.Tests.{ltb-true, ltb-false}
 use lib.Dec.{T, ltb}
@@ -16,23 +16,22 @@ use Rattle.protocol.specs.declared.Decoded.the-variants as D
 use Rattle.protocol.specs.declared.Message.{Message}
 use Rattle.protocol.specs.declared.Rules.{Rules}
 use Rattle.protocol.specs.Bytes.{Bytes, numberAt, signedOf}
-use Rattle.protocol.specs.Decode.{Header, more, refuse, framed, lengthBy, typedBy, untypedBy, bareBy, tagAt, headerBy, headerOf, closed, bodyBy, bodyOf, readBody, decodedBy, decodeBy, decodeOf}
+use Rattle.protocol.specs.Decode.{Header, more, refuse, framed, lengthBy, typedBy, untypedBy, bareBy, tagAt, headerBy, headerOf, closed, bodyBy, readBody, decodedBy, decodeBy, decodeOf}
 use Rattle.protocol.specs.Each.{Each}
 use Rattle.protocol.specs.Fields.{Field, Slot, bytes}
 use Rattle.protocol.specs.Kinds.{Envelope, typed, untyped, bare, Kind, Mode, modes, IsIn, modeOf, kindIn}
 use Rattle.protocol.specs.Reading.{Read, got, bad, andThen, read, readEach}
 use Rattle.protocol.specs.Refusals.{modeUnknown, typeUnknown, lengthTooSmall, lengthAboveLimit, bytesLeft}
 use Rattle.protocol.specs.WellFormed.{bodyStart}
-use Rattle.protocol.proofs.Framed.{Sized, Framing, Framed, framed-is, framed-ends}
+use Rattle.protocol.proofs.Framed.{Framing, Framed, framed-is, framed-ends}
 use Rattle.protocol.proofs.Find.{every}
-use Rattle.laws.specs.Faults.{FieldBefore, BodyFault, left, here, later, LengthFault, Unknown, Known, HeaderFault, FrameEnds}
+use Rattle.laws.specs.Faults.{FieldBefore, BodyFault, left, here, later, LengthFault, Unknown, HeaderFault, FrameEnds}
 use Rattle.laws.specs.Statements.{Faulty, UnknownMode, BadHeader, Refusals, theDecoder}
 use Rattle.laws.proofs.Bodies.{saneField, field-was}
 use Rattle.laws.proofs.Faults.{handed, field-fault}
 use Rattle.laws.proofs.Headers.{tagEnd, afterTag, header-is}
-use Rattle.laws.proofs.Lists.{FieldWas}
 use Rattle.laws.proofs.Numbers.{bytes-take}
-use Rattle.laws.proofs.Rows.{Sane, row-sane}
+use Rattle.laws.proofs.Rows.{row-sane}
 use Rattle.laws.proofs.Table.{and-left, and-right, mode-found, kind-found}
 
 -- ---- bodies

@@ -1,7 +1,6 @@
 -- What every row of the table is like, so far as laws of reading and writing ask: one computed test over all rows.
 use Prim.Native.Nat.{ℕ, _/_, _^_, _<_}
-use mathlib.Core.Bool.{Bool, true, false, _&&_}
-use mathlib.Core.List.{List, [], _∷_}
+use mathlib.Core.Bool.{Bool, true, _&&_}
 use mathlib.Core.Path.{_≡_}
 use lib.Dec.{T, ltb, ltb→lt, eqb, eqb→eq}
 use Rattle.protocol.specs.Each.{leastOfEach}

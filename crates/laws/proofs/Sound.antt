@@ -1,27 +1,24 @@
 -- Law 1: what is accepted is a well-formed frame of the mode, and the answer is that frame's record and length.
-use Prim.Native.Nat.{ℕ, zero, suc, _+_, _-_, _≤_, _<_, _^_}
-use mathlib.Core.Bool.{Bool, true, false, cond}
-use mathlib.Core.List.{List, [], _∷_, _++_, append-assoc}
-use mathlib.Core.Option.{Option, some, none}
+use Prim.Native.Nat.{ℕ, _+_, _≤_}
+use mathlib.Core.List.{List, [], _∷_}
 use mathlib.Core.Path.{_≡_, refl, ap, sym, _∙_}
 use native.Mathlib.Omega.{arith}
 use lib.IntN.{pos}
-use lib.ListN.{length, take, drop, length-append, length-drop, take-append-drop}
+use lib.ListN.{length, take, drop, length-drop, take-append-drop}
 use lib.Seq.{length-take-le, take-take, take-add}
 use Rattle.protocol.specs.declared.Decoded.the-variants as D
 use Rattle.protocol.specs.declared.Message.{Message}
 use Rattle.protocol.specs.declared.Rules.{Rules}
 use Rattle.protocol.specs.Bytes.{Bytes, numberAt, be, signedOf, bitsOf}
-use Rattle.protocol.specs.Decode.{Header, more, refuse, framed, tagAt, headerOf, bodyBy, bodyOf, readBody, decodedBy, decodeBy, decodeOf}
-use Rattle.protocol.specs.Kinds.{Envelope, typed, untyped, bare, Kind, Mode}
+use Rattle.protocol.specs.Decode.{Header, more, refuse, framed, tagAt, headerOf, bodyBy, readBody, decodedBy, decodeBy, decodeOf}
+use Rattle.protocol.specs.Kinds.{Envelope, typed, untyped, bare, Kind}
 use Rattle.protocol.specs.Reading.{Read, got, bad}
-use Rattle.protocol.specs.WellFormed.{Contents, bodyBytes, lengthOf, header, bodyStart, frame, recordOf}
-use Rattle.protocol.proofs.Framed.{Sized, Framing, Framed, framed-is, framed-ends}
-use Rattle.protocol.proofs.Numbers.{drop-take}
+use Rattle.protocol.specs.WellFormed.{bodyBytes, lengthOf, header, bodyStart, frame, recordOf}
+use Rattle.protocol.proofs.Framed.{Framing, Framed, framed-is, framed-ends}
 use Rattle.laws.specs.Statements.{Accepted, Sound, theDecoder}
 use Rattle.laws.proofs.Atoms.{byte-be}
-use Rattle.laws.proofs.Bodies.{BodyWas, body-was}
-use Rattle.laws.proofs.Numbers.{bytes-take, bytes-drop, length-be, be-at, number-at-below, bits-signed}
+use Rattle.laws.proofs.Bodies.{body-was}
+use Rattle.laws.proofs.Numbers.{bytes-take, be-at, number-at-below, bits-signed}
 use Rattle.laws.proofs.Rows.{Sane, row-sane}
 use Rattle.laws.proofs.Table.{mode-found, kind-found}
 

@@ -1,16 +1,15 @@
 -- The faults of document 01's table of refusals, 5 to 8, in words that do not mention reading. `g` is what stands from a place to the frame's
 -- end. A fault in a list of things has before it the bytes of right contents of all that comes before, and its place is where those end.
-use Prim.Native.Nat.{ℕ, zero, suc, _+_, _*_, _<_, _≤_}
-use mathlib.Core.Bool.{Bool, true, false}
+use Prim.Native.Nat.{ℕ, suc, _+_, _*_, _<_, _≤_}
+use mathlib.Core.Bool.{true, false}
 use mathlib.Core.List.{List, [], _∷_, _++_}
 use mathlib.Core.Logic.{_⊎_}
 use mathlib.Core.Path.{_≡_}
-use lib.IntN.{ℤ, pos, negsuc}
+use lib.IntN.{pos, negsuc}
 use lib.ListN.{length, drop}
 use Rattle.protocol.specs.declared.Rules.{Rules}
-use Rattle.protocol.specs.Bytes.{noZero, isOneOf, be, numberAt, signedOf}
-use Rattle.protocol.specs.Each.{Each}
-use Rattle.protocol.specs.Fields.{Atom, unsigned, signed, oneOf, text, value, rest, AtomContent, AtomInRange, atomAble, atomBytes, Item, ItemContent, ItemsInRange, itemsAble, itemsBytes, noneEnds, itemLeast, Count, most, Field, one, counted, ended, Content, InRange, able, bytes}
+use Rattle.protocol.specs.Bytes.{noZero, isOneOf, numberAt, signedOf}
+use Rattle.protocol.specs.Fields.{Atom, unsigned, signed, oneOf, text, value, rest, AtomContent, AtomInRange, atomAble, atomBytes, Item, ItemContent, ItemsInRange, itemsAble, itemsBytes, noneEnds, itemLeast, Count, Field, one, counted, ended, Content, InRange, able, bytes}
 use Rattle.protocol.specs.Kinds.{Envelope, typed, untyped, bare, Kind, IsIn}
 use Rattle.protocol.specs.Reading.{countOf}
 use Rattle.protocol.specs.Refusals.{typeUnknown, lengthTooSmall, lengthAboveLimit, badCount, cut, notAllowed, bytesLeft}

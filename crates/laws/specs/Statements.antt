@@ -1,8 +1,8 @@
 -- What is proved of decoding: a page to read by itself, with the definitions that it names. Each statement is about any decoder, a function of the
 -- rules and of the bytes that are there; the theorems, in proofs/, hold of `theDecoder`, to which the code is proved equal.
-use Prim.Native.Nat.{ℕ, _+_, _≤_, _<_}
-use mathlib.Core.Bool.{Bool, true, false}
-use mathlib.Core.List.{List, [], _∷_, _++_, map}
+use Prim.Native.Nat.{ℕ, _+_, _≤_}
+use mathlib.Core.Bool.{true, false}
+use mathlib.Core.List.{List, _++_, map}
 use mathlib.Core.Logic.{_⊎_, _↔_}
 use mathlib.Core.Path.{_≡_}
 use lib.ListN.{length, take, drop}
