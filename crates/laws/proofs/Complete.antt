@@ -10,9 +10,11 @@ use lib.ListN.{length, length-append}
 use lib.Seq.{take-append-seam}
 use Rattle.protocol.specs.declared.Rules.{Rules}
 use Rattle.protocol.specs.Bytes.{numberAt, be}
-use Rattle.protocol.specs.Decode.{framed, lengthBy, typedBy, untypedBy, bareBy, tagAt, headerBy, headerOf, decodedBy, decodeBy, decodeOf}
-use Rattle.protocol.specs.Fields.{Field, Content, bytes, least, one, counted, ended}
+use Rattle.protocol.specs.Decode.{framed, lengthBy, typedBy, untypedBy, bareBy, tagAt, headerBy, headerOf, readBody, decodedBy, decodeBy, decodeOf}
+use Rattle.protocol.specs.Each.{Each, slotsOfEach}
+use Rattle.protocol.specs.Fields.{Field, Content, Slot, bytes, slot, least, one, counted, ended}
 use Rattle.protocol.specs.Kinds.{Envelope, typed, untyped, bare, Kind, Mode}
+use Rattle.protocol.specs.Reading.{got}
 use Rattle.protocol.specs.WellFormed.{Contents, bodyBytes, lengthOf, header, bodyStart, frame, WellFormed, recordOf}
 use Rattle.protocol.proofs.Numbers.{lower}
 use Rattle.laws.specs.Statements.{Complete, theDecoder}
@@ -94,14 +96,26 @@ header-long bare tag n = refl
 
 -- ---- the whole frame
 
-pub complete : Complete theDecoder
-unfolding decodeOf headerOf headerBy decodeBy decodedBy frame recordOf
-complete rules m k c t w =
+-- a well-formed frame, whatever follows it, has a header that tells where it ends
+pub frame-back : (rules : Rules) (m : Mode) (k : Kind) (c : Contents k) (t : List ℕ) → WellFormed rules m k c → headerOf rules (frame (m .envelope) k c ++ t) ≡ framed k (bodyStart (m .envelope)) (length (frame (m .envelope) k c))
+unfolding headerOf headerBy frame
+frame-back rules m k c t w =
+    let e = m .envelope in
+    let b = bodyBytes k c in
+    let r = told k b t e (row-sane m (w .known) k (w .kind)) (large-enough rules m k c w) (w .withinLimit) in
+    rw (mode-found rules m .1 (w .known, w .mode), header-is e, r .tag, kind-found m (w .known) (k .tag) k .1 (w .kind, refl), le-ltb _ _ (r .there), r .after) refl
+
+-- and a body that is read as its content
+pub content-back : {X : Type 0} (rules : Rules) (m : Mode) (k : Kind) (c : Contents k) (make : Each Slot (k .body) → X) → WellFormed rules m k c → readBody rules k make (frame (m .envelope) k c) (bodyStart (m .envelope)) ≡ got (make (slotsOfEach bytes slot (k .body) (bodyStart (m .envelope)) c)) (length (frame (m .envelope) k c))
+unfolding frame
+content-back rules m k c make w =
     let e = m .envelope in
     let b = bodyBytes k c in
     let h = header e (k .tag) (length b) in
     let sane = row-sane m (w .known) k (w .kind) in
-    let r = told k b t e sane (large-enough rules m k c w) (w .withinLimit) in
-    let found = kind-found m (w .known) (k .tag) k .1 (w .kind, refl) in
-    let body = rw (header-long e (k .tag) (length b)) at (body-back rules k (k .message) c h (sane .fields) (sane .last) (w .inRange) (w .writable)) in
-    rw (mode-found rules m .1 (w .known, w .mode), header-is e, r .tag, found, le-ltb _ _ (r .there), r .after, take-append-seam (h ++ b) t, body) refl
+    let r = body-back rules k make c h (sane .fields) (sane .last) (w .inRange) (w .writable) in
+    rw (header-long e (k .tag) (length b)) at (rw (← length-append h b) at r)
+
+pub complete : Complete theDecoder
+unfolding decodeOf decodeBy decodedBy recordOf
+complete rules m k c t w = rw (frame-back rules m k c t w, take-append-seam (frame (m .envelope) k c) t, content-back rules m k c (k .message) w) refl

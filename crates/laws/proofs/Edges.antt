@@ -1,8 +1,58 @@
--- The starred lines of document 01, as one statement over their list: each is computed.
+-- Law 6: the starred lines of document 01, with the elements that they name, as one statement over their list: each is computed.
 use mathlib.Core.Path.{refl}
+use Rattle.protocol.specs.Elements.{listIn, elementBy, elementAt, elementIn, elementOf}
+use Rattle.protocol.specs.Kinds.{valueElement}
 use Rattle.protocol.proofs.Open.{the-decoding}
-use Rattle.laws.specs.Statements.{Edges, theDecoder}
+use Rattle.laws.specs.Statements.{Edges, theDecoder, theElementCall}
 
-pub edges : Edges theDecoder
-unfolding the-decoding
-edges = (refl, (refl, (refl, (refl, (refl, (refl, (refl, (refl, (refl, (refl, (refl, (refl, (refl, tt)))))))))))))
+pub edges : Edges theDecoder theElementCall
+unfolding the-decoding listIn elementBy elementAt elementIn elementOf valueElement
+edges = (
+  refl,
+  tt,
+  (
+    refl,
+    tt,
+    (
+      refl,
+      tt,
+      (
+        refl,
+        tt,
+        (
+          refl,
+          tt,
+          (
+            refl,
+            (refl, tt),
+            (
+              refl,
+              tt,
+              (
+                refl,
+                (refl, (refl, tt)),
+                (
+                  refl,
+                  tt,
+                  (
+                    refl,
+                    tt,
+                    (
+                      refl,
+                      tt,
+                      (
+                        refl,
+                        tt,
+                        (refl, tt, tt),
+                      ),
+                    ),
+                  ),
+                ),
+              ),
+            ),
+          ),
+        ),
+      ),
+    ),
+  ),
+)

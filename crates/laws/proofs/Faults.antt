@@ -233,20 +233,23 @@ module _ (rules : Rules) (f : List ℕ) (b : Bytes f) where
           let same : drop 2 (drop p f) ≡ drop q f = drop-drop 2 p f ∙ ap (λ (n : ℕ). drop n f) next in
           let items = h .item .items in
           let first = length (itemsBytes i (items .contents)) in
-          let fault = h .item .fault in
-          (2 + first + fault .0, record {
-            n = c .count;
-            before = h .before;
-            first = first;
-            inside = fault .0;
-            after = drop (h .stop) f;
-            header = t .0;
-            count = rw (← t .1) (w .count);
-            items = rw same (items-right (h .before) q (h .stop) items);
-            fewer = h .fewer;
-            fault = fault .1;
-            place = refl;
-          }, omega (arith, fault .2, items .next, next))
+          let fault = h .item .fault in (
+            2 + first + fault .0,
+            record {
+              n = c .count;
+              before = h .before;
+              first = first;
+              inside = fault .0;
+              after = drop (h .stop) f;
+              header = t .0;
+              count = rw (← t .1) (w .count);
+              items = rw same (items-right (h .before) q (h .stop) items);
+              fewer = h .fewer;
+              fault = fault .1;
+              place = refl;
+            },
+            omega (arith, fault .2, items .next, next),
+          )
 
       CountedRefused : ℕ → ℕ → Type 0
       CountedRefused number place = (at : ℕ) × FieldFault rules (counted k i) (drop p f) number at × (place ≡ p + at)

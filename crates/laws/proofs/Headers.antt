@@ -50,7 +50,7 @@ header-is bare kind s = rw (empty-is (length s)) refl
 -- ---- when decoding waits
 
 -- what is read of a body is an answer
-body-answers : (b : Body) (end : ℕ) → ofDecoded (decodedBy b end) .needMore ≡ false
+pub body-answers : (b : Body) (end : ℕ) → ofDecoded (decodedBy b end) .needMore ≡ false
 unfolding decodedBy ofDecoded
 body-answers (B.Is m) end = refl
 body-answers (B.Refused number place) end = refl

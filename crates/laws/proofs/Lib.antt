@@ -10,6 +10,8 @@ pub mod Sound
 pub mod Fields
 pub mod Faults
 pub mod Refusals
+pub mod Elements
+pub mod ElementCalls
 pub mod Edges
 pub mod Table
 pub mod Headers

@@ -4,3 +4,5 @@ pub mod Places
 pub mod Faults
 pub mod Edges
 pub mod Statements
+pub mod Items
+pub mod ElementStatements

@@ -8,12 +8,14 @@ use mathlib.Core.Path.{_≡_}
 use lib.ListN.{length, take, drop}
 use Rattle.protocol.specs.declared.Decoded.the-variants as D
 use Rattle.protocol.specs.declared.Decoded.{Decoded}
+use Rattle.protocol.specs.declared.Element.{Element}
 use Rattle.protocol.specs.declared.Message.{Message}
 use Rattle.protocol.specs.declared.Rules.{Rules}
 use Rattle.protocol.specs.Answers.{ofDecoded}
 use Rattle.protocol.specs.Bytes.{Bytes}
 use Rattle.protocol.specs.Decode.{decodeOf}
 use Rattle.protocol.specs.Each.{Each, leastOfEach}
+use Rattle.protocol.specs.Elements.{elementOf}
 use Rattle.protocol.specs.Fields.{Slot, least}
 use Rattle.protocol.specs.Kinds.{Kind, Mode, modes, IsIn}
 use Rattle.protocol.specs.WellFormed.{Contents, WellFormed, bodyStart, lengthOf, frame, recordOf}
@@ -28,6 +30,13 @@ Decoder = Rules → List ℕ → Decoded
 
 abbrev pub theDecoder : Decoder
 theDecoder = decodeOf
+
+-- an element call: rules, the bytes that are there, list number and element number
+abbrev pub ElementCall : Type 0
+ElementCall = Rules → List ℕ → ℕ → ℕ → Element
+
+abbrev pub theElementCall : ElementCall
+theElementCall = elementOf
 
 -- 1. Sound. What is accepted is a well-formed frame of the mode, and the answer is that frame's record and length.
 pub record Accepted (rules : Rules) (s : List ℕ) (r : Message) (n : ℕ) : Type 0 where
@@ -68,9 +77,9 @@ MoreBytes decode = (rules : Rules) (s t : List ℕ) → ofDecoded (decode rules 
 abbrev pub NeedMore : Decoder → Type 0
 NeedMore decode = (rules : Rules) (s : List ℕ) → (ofDecoded (decode rules s) .needMore ≡ true) ↔ Waits (rules .mode) s
 
--- 6. Edges. The starred lines of document 01.
-abbrev pub Edges : Decoder → Type 0
-Edges decode = Answered decode edges
+-- 6. Edges. The starred lines of document 01, with the elements that they name.
+abbrev pub Edges : Decoder → ElementCall → Type 0
+Edges decode call = Answered decode call edges
 
 -- 7. Refusals. A refusal from 5 to 8 names its fault: the frame is there, from its body's start to the refusal's place stand right contents, and at
 -- the place the fault that document 01's table names. One from 1 to 4 does so of the header.
