@@ -14,7 +14,7 @@ use Rattle.protocol.specs.Each.{Each}
 use Rattle.protocol.specs.Fields.{AtomSlot, Item, Count}
 use Rattle.protocol.specs.Reading.{Read, got, bad, andThen, readNumber, readItem, passItems, countOf, countAt, readCount}
 use Rattle.protocol.specs.Refusals.{badCount}
-use Rattle.protocol.proofs.Numbers.{Whole, whole}
+use Rattle.protocol.proofs.Numbers.{whole}
 
 -- the list starts where the count ends, and so many of its smallest elements fit into what is left
 pub record Counted (k : Count) (least : ℕ) (f : List ℕ) (p : ℕ) (l : ListSlot) (q : ℕ) : Type 0 where

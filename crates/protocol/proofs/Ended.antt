@@ -1,6 +1,6 @@
 -- A list that ends in a zero byte, one item at a time. The definition's turns are as many as the frame has bytes, and more change nothing.
-use Prim.Native.Nat.{ℕ, zero, suc, _+_, _-_, _≤_, _<_}
-use mathlib.Core.Bool.{Bool, true, false, cond}
+use Prim.Native.Nat.{ℕ, zero, suc, _+_, _≤_, _<_}
+use mathlib.Core.Bool.{cond}
 use mathlib.Core.List.{List}
 use mathlib.Core.Option.{Option, some, none}
 use mathlib.Core.Path.{_≡_, refl, ap, sym, _∙_}
@@ -15,7 +15,7 @@ use Rattle.protocol.specs.Fields.{AtomSlot, Item}
 use Rattle.protocol.specs.Kinds.{errorField}
 use Rattle.protocol.specs.Reading.{Read, got, bad, andThen, readNumber, textAt, readText, zeroIn, readItem, endedFrom}
 use Rattle.protocol.specs.Refusals.{cut}
-use Rattle.protocol.proofs.Numbers.{Whole, whole, not-whole}
+use Rattle.protocol.proofs.Numbers.{whole}
 
 -- an item that is read takes at least a byte
 abbrev pub Grows : Rules → Item → List ℕ → Type 0

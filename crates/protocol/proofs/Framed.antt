@@ -1,9 +1,9 @@
 -- What is known where a header names a whole frame.
-use Prim.Native.Nat.{ℕ, _+_, _≤_, _<_}
+use Prim.Native.Nat.{ℕ, _+_, _≤_}
 use mathlib.Core.Bool.{Bool, true, false, cond}
-use mathlib.Core.List.{List, [], _∷_}
+use mathlib.Core.List.{List}
 use mathlib.Core.Option.{Option, some, none}
-use mathlib.Core.Path.{_≡_, refl, ap, sym, _∙_}
+use mathlib.Core.Path.{_≡_, refl, ap, sym}
 use native.Mathlib.Omega.{arith}
 use borrow.Author.Tests.{ltb-false, eqb-false}
 use lib.Dec.{T, leb, leb→le, ltb, eqb}
@@ -12,8 +12,7 @@ use lib.ListN.{length}
 use Rattle.protocol.specs.declared.Rules.{Rules}
 use Rattle.protocol.specs.Bytes.{numberAt, signedOf}
 use Rattle.protocol.specs.Decode.{Header, more, refuse, framed, lengthBy, typedBy, untypedBy, bareBy, tagAt, headerIn, headerBy, headerOf}
-use Rattle.protocol.specs.Kinds.{Envelope, typed, untyped, bare, Kind, Mode, modes, find, modeOf, kindIn, frontend, backend, cancel, tlsAnswer, gssAnswer, parse, bind, close, describe, execute, flush, sync, copyDone, copyData, copyFail, parseComplete, bindComplete, closeComplete, portalSuspended, noData, emptyQueryResponse, rowDescription, parameterDescription, dataRow, commandComplete, readyForQuery, errorResponse, noticeResponse, copyInResponse, copyOutResponse, copyBothResponse, notificationResponse, cancelRequest, sslAccept, sslRefuse, gssAccept, gssRefuse}
-use Rattle.protocol.specs.Refusals.{lengthTooSmall, lengthAboveLimit}
+use Rattle.protocol.specs.Kinds.{Envelope, typed, untyped, bare, Kind, Mode, modes, modeOf, kindIn, frontend, backend, cancel, tlsAnswer, gssAnswer, parse, bind, close, describe, execute, flush, sync, copyDone, copyData, copyFail, parseComplete, bindComplete, closeComplete, portalSuspended, noData, emptyQueryResponse, rowDescription, parameterDescription, dataRow, commandComplete, readyForQuery, errorResponse, noticeResponse, copyInResponse, copyOutResponse, copyBothResponse, notificationResponse, cancelRequest, sslAccept, sslRefuse, gssAccept, gssRefuse}
 use Rattle.protocol.specs.WellFormed.{bodyStart, lengthOf}
 use Rattle.protocol.proofs.Find.{every, find-every, numberOf, tagOf}
 

@@ -1,16 +1,16 @@
 -- Numbers that are read: where one was read it is whole, and what its sign is.
-use Prim.Native.Nat.{ℕ, zero, suc, _+_, _-_, _*_, _/_, _^_, _≤_, _<_}
+use Prim.Native.Nat.{ℕ, zero, suc, _+_, _-_, _/_, _^_, _≤_, _<_}
 use mathlib.Core.Bool.{Bool, true, false, cond}
 use mathlib.Core.List.{List, [], _∷_}
 use mathlib.Core.Path.{_≡_, refl, ap, _∙_, sym}
 use native.Mathlib.Omega.{arith}
-use borrow.Author.Tests.{le-leb, lt-leb, lt-ltb, le-ltb, leb-true, leb-false}
-use lib.Dec.{leb, ltb}
-use lib.IntN.{ℤ, pos, negsuc}
+use borrow.Author.Tests.{le-leb, lt-ltb, le-ltb, leb-true, leb-false}
+use lib.Dec.{leb}
+use lib.IntN.{pos, negsuc}
 use lib.ListN.{length, take, drop}
 use lib.Seq.{length-take-le, take-nil, take-take}
 use Rattle.protocol.specs.Bytes.{numberAt, signedOf}
-use Rattle.protocol.specs.Reading.{Read, got, bad, readNumber}
+use Rattle.protocol.specs.Reading.{got, bad, readNumber}
 use Rattle.protocol.specs.Refusals.{cut}
 
 -- a number that was read

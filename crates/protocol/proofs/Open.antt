@@ -1,6 +1,6 @@
 -- Bundles of definitions, to open together: to unfold one of these is to unfold all that its line names.
-use Rattle.protocol.specs.Bytes.{noZero, isOneOf, numberFrom, numberAt, be, signedOf, bitsOf}
-use Rattle.protocol.specs.Each.{bytesOfEach, slotsOfEach, ableEach, HoldsEach, leastOfEach}
+use Rattle.protocol.specs.Bytes.{isOneOf, numberFrom, numberAt, signedOf}
+use Rattle.protocol.specs.Each.{leastOfEach}
 use Rattle.protocol.specs.Fields.{itemLeast}
 use Rattle.protocol.specs.Kinds.{frontend, backend, cancel, tlsAnswer, gssAnswer, parse, bind, close, describe, execute, flush, sync, copyDone, copyData, copyFail, parseComplete, bindComplete, closeComplete, portalSuspended, noData, emptyQueryResponse, rowDescription, parameterDescription, dataRow, commandComplete, readyForQuery, errorResponse, noticeResponse, copyInResponse, copyOutResponse, copyBothResponse, notificationResponse, cancelRequest, sslAccept, sslRefuse, gssAccept, gssRefuse, find, modeOf, kindIn}
 use Rattle.protocol.specs.Reading.{readNumber, oneMore, zeroIn, textAt, readText, valueAt, readValue, passItems, countAt, readCount, readCounted, endedFrom, readEnded}

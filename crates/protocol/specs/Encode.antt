@@ -1,6 +1,6 @@
 -- Encoding: which content an encoder's arguments are, what the encoder answers, and what the output then holds.
 use Prim.Native.Nat.{ℕ, zero, suc, _+_}
-use mathlib.Core.Bool.{Bool, true, false, cond}
+use mathlib.Core.Bool.{cond}
 use mathlib.Core.List.{List, [], _∷_, map}
 use mathlib.Core.List.{_++_}
 use mathlib.Core.Option.{Option, some, none, Option·map}
@@ -10,13 +10,12 @@ use lib.IntN.{ℤ, pos, negsuc}
 use lib.ListN.{length, take, drop}
 use Rattle.protocol.specs.declared.Encoded.the-variants as N
 use Rattle.protocol.specs.declared.Encoded.{Encoded}
-use Rattle.protocol.specs.declared.Rules.{Rules}
 use Rattle.protocol.specs.declared.data.FieldDescription.{FieldDescription}
 use Rattle.protocol.specs.declared.response.GssEncResponse.{GssEncResponse}
 use Rattle.protocol.specs.declared.response.GssEncResponse.the-variants as Gss
 use Rattle.protocol.specs.declared.response.SslResponse.{SslResponse}
 use Rattle.protocol.specs.declared.response.SslResponse.the-variants as Ssl
-use Rattle.protocol.specs.Fields.{Item, ItemContent}
+use Rattle.protocol.specs.Fields.{ItemContent}
 use Rattle.protocol.specs.Kinds.{Kind, Mode, nullable, rowField, errorField, sslAccept, sslRefuse, gssAccept, gssRefuse}
 use Rattle.protocol.specs.Refusals.{lengthAboveLimit, outputTooShort, notRepresentable}
 use Rattle.protocol.specs.WellFormed.{Contents, bodyBytes, lengthOf, frame, allAble}

@@ -1,13 +1,12 @@
 -- The sorts of field. A body is a list of fields from left to right. A field is an atom, one thing on the wire, or a list of
 -- items, each of which is a list of atoms. For each sort: what it means (content), that a content is in its
 -- type's range (InRange) and can be written (able), its bytes, what a record holds of it (slot), and how many bytes it needs at least.
-use Prim.Native.Nat.{ℕ, zero, suc, _+_, _/_, _<_, _≤_, _^_}
+use Prim.Native.Nat.{ℕ, _+_, _/_, _<_, _^_}
 use mathlib.Core.Bool.{Bool, true, false, not, _&&_}
 use mathlib.Core.List.{List, [], _∷_, _++_}
 use mathlib.Core.Option.{Option, some, none}
-use mathlib.Core.Path.{_≡_}
 use lib.Dec.{leb, eqb}
-use lib.IntN.{ℤ, pos, negsuc}
+use lib.IntN.{ℤ, negsuc}
 use lib.ListN.{length}
 use lib.Signed.{mag}
 use Rattle.protocol.specs.declared.Element.{Element}

@@ -1,7 +1,7 @@
 -- Document 01's tables: for each kind its type byte, smallest length, limit and body, and under that its record.
 use Prim.Native.Char.{Char, code}
 use Prim.Native.Nat.{ℕ}
-use mathlib.Core.Bool.{Bool, true, false, cond}
+use mathlib.Core.Bool.{cond}
 use mathlib.Core.List.{List, [], _∷_}
 use mathlib.Core.Logic.{_⊎_}
 use mathlib.Core.Option.{Option, some, none}
@@ -19,7 +19,7 @@ use Rattle.protocol.specs.declared.kinds.Bounds.{Bounds}
 use Rattle.protocol.specs.declared.response.GssEncResponse.the-variants as Gss
 use Rattle.protocol.specs.declared.response.SslResponse.the-variants as Ssl
 use Rattle.protocol.specs.Each.{Each}
-use Rattle.protocol.specs.Fields.{Atom, unsigned, signed, oneOf, text, value, rest, AtomSlot, Item, Count, signedCount, Field, one, counted, ended, Slot}
+use Rattle.protocol.specs.Fields.{Atom, unsigned, signed, oneOf, text, value, rest, AtomSlot, Item, signedCount, Field, one, counted, ended, Slot}
 
 -- how a frame is framed: by a type byte and a length, by a length and a code, or as one byte alone
 pub data Envelope : Type 0 where

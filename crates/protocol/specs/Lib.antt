@@ -9,3 +9,5 @@ pub mod Decode
 pub mod Elements
 pub mod Encode
 pub mod Answers
+pub mod Stream
+pub mod Names

@@ -8,7 +8,7 @@ use Rattle.protocol.specs.declared.Message.{Message}
 use Rattle.protocol.specs.declared.Rules.{Rules}
 use Rattle.protocol.specs.Bytes.{be}
 use Rattle.protocol.specs.Each.{Each, bytesOfEach, slotsOfEach, ableEach, HoldsEach}
-use Rattle.protocol.specs.Fields.{Field, Content, InRange, able, bytes, slot}
+use Rattle.protocol.specs.Fields.{Content, InRange, able, bytes, slot}
 use Rattle.protocol.specs.Kinds.{Envelope, typed, untyped, bare, Kind, Mode, modes, IsIn}
 
 -- what a frame of a kind means: a content for each field

@@ -1,5 +1,4 @@
 -- `protocol::kinds::backend_bounds` meets its contract: each arm is a row of the table, in the table's order.
-use mathlib.Core.Path.{_≡_}
 use Rattle.protocol.specs.Kinds.{find, kindIn, boundsBy, backend, parseComplete, bindComplete, closeComplete, portalSuspended, noData, emptyQueryResponse, copyDone, rowDescription, parameterDescription, dataRow, commandComplete, readyForQuery, errorResponse, noticeResponse, copyInResponse, copyOutResponse, copyBothResponse, notificationResponse, copyData}
 use Rattle.protocol.proofs.Find.{arm, no-arm}
 use Rattle.protocol.proofs.kinds.backend_bounds.Statement.{statement}

@@ -1,5 +1,4 @@
 -- `protocol::kinds::cancel_bounds` meets its contract: each arm is a row of the table, in the table's order.
-use mathlib.Core.Path.{_≡_}
 use Rattle.protocol.specs.Kinds.{find, kindIn, boundsBy, cancel, cancelRequest}
 use Rattle.protocol.proofs.Find.{arm, no-arm}
 use Rattle.protocol.proofs.kinds.cancel_bounds.Statement.{statement}

@@ -1,5 +1,4 @@
 -- `protocol::kinds::gss_bounds` meets its contract: each arm is a row of the table, in the table's order.
-use mathlib.Core.Path.{_≡_}
 use Rattle.protocol.specs.Kinds.{find, kindIn, boundsBy, gssAnswer, gssAccept, gssRefuse}
 use Rattle.protocol.proofs.Find.{arm, no-arm}
 use Rattle.protocol.proofs.kinds.gss_bounds.Statement.{statement}
