@@ -12,6 +12,7 @@ pub mod Faults
 pub mod Refusals
 pub mod Elements
 pub mod ElementCalls
+pub mod Arguments
 pub mod Edges
 pub mod Table
 pub mod Headers

@@ -6,3 +6,5 @@ pub mod Edges
 pub mod Statements
 pub mod Items
 pub mod ElementStatements
+pub mod Arguments
+pub mod EncodeStatements

@@ -1,0 +1,94 @@
+-- Which content lists of arguments are, item by item, and when they are none.
+use Prim.Native.Nat.{ℕ, zero, suc, _+_, _≤_, _<_}
+use mathlib.Core.Bool.{Bool, true, false, cond}
+use mathlib.Core.List.{List, [], _∷_}
+use mathlib.Core.Logic.{_⊎_, inl, inr, _↔_}
+use mathlib.Core.Option.{Option, some, none, Option·map}
+use mathlib.Core.Path.{_≡_, refl, ap, sym, _∙_}
+use native.Mathlib.Omega.{arith}
+use borrow.Author.Tests.{leb-true, leb-false, le-leb, lt-leb}
+use lib.Dec.{leb}
+use lib.IntN.{ℤ, pos, negsuc}
+use lib.ListN.{length, take, drop, length-drop}
+use lib.Seq.{drop-drop}
+use Rattle.protocol.specs.declared.data.FieldDescription.{FieldDescription}
+use Rattle.protocol.specs.Encode.{items, oneBefore, valuesGiven, errorFieldsGiven, rowFieldGiven, rowFieldsGiven}
+use Rattle.protocol.specs.Fields.{ItemContent}
+use Rattle.protocol.specs.Kinds.{nullable, rowField, errorField}
+use Rattle.laws.specs.Arguments.{nth, Some, itself, sizeOf, total, BelowNull, valueAt, Outside}
+use Rattle.laws.specs.EncodeStatements.{ValuesAre, Values, ErrorFieldsAre, ErrorFields, RowFieldsAre, RowFields, NumberItems}
+
+-- ---- options
+
+-- what stands before a list that is there
+record Before {A : Type 0} (x : A) (o : Option (List A)) (cs : List A) : Type 0 where
+  rest : List A
+  was : o ≡ some rest
+  is : cs ≡ x ∷ rest
+
+before : {A : Type 0} (x : A) (o : Option (List A)) (cs : List A) → oneBefore x o ≡ some cs → Before x o cs
+before x none cs e = let z : _≡_ {A = ℕ} 0 1 = cc in absurd (omega arith)
+before x (some rest) cs e = let q : x ∷ rest ≡ cs = cc in record { rest = rest; was = refl; is = sym q }
+
+-- a test that let a list through
+let-through : {A : Type 0} (t : Bool) (o : Option (List A)) (cs : List A) → cond t o none ≡ some cs → (t ≡ true) × (o ≡ some cs)
+let-through true o cs e = (refl, e)
+let-through false o cs e = let z : _≡_ {A = ℕ} 0 1 = cc in absurd (omega arith)
+
+-- there is a list, or there is none
+either : {A : Type 0} (o : Option (List A)) → ((cs : List A) × (o ≡ some cs)) ⊎ (o ≡ none)
+either none = inr refl
+either (some cs) = inl (cs, refl)
+
+not-both : {A : Type 0} (o : Option (List A)) (cs : List A) → o ≡ some cs → o ≡ none → ⊥
+not-both o cs e f = let z : _≡_ {A = ℕ} 0 1 = cc in omega arith
+
+-- none exactly where something is wrong: where there is a list nothing is, and where nothing is there is a list
+none-exactly : {A W : Type 0} (o : Option (List A)) → ((cs : List A) → o ≡ some cs → W → ⊥) → (o ≡ none → W) → (o ≡ none) ↔ W
+none-exactly {A} {W} o right wrong = (wrong, λ w. by (either o) w)
+  where
+    by : ((cs : List A) × (o ≡ some cs)) ⊎ (o ≡ none) → W → o ≡ none
+    by (inl h) w = absurd (right (h .0) (h .1) w)
+    by (inr h) w = h
+
+-- ---- values
+
+value-shift : (z : ℤ) (n t : ℕ) (bs : List ℕ) → valueAt z t (drop n bs) ≡ valueAt z (n + t) bs
+value-shift (pos m) n t bs = ap (λ (r : List ℕ). some (take m r)) (drop-drop t n bs)
+value-shift (negsuc m) n t bs = refl
+
+-- the first length, and the values after it
+record FirstValue (z : ℤ) (ls : List ℤ) (bs : List ℕ) (cs : List (ItemContent nullable)) : Type 0 where
+  fits : sizeOf z ≤ length bs
+  right : BelowNull z → ⊥
+  rest : List (ItemContent nullable)
+  was : valuesGiven ls (drop (sizeOf z) bs) ≡ some rest
+  is : cs ≡ (valueAt z 0 bs, tt) ∷ rest
+
+first-value : (z : ℤ) (ls : List ℤ) (bs : List ℕ) (cs : List (ItemContent nullable)) → valuesGiven (z ∷ ls) bs ≡ some cs → FirstValue z ls bs cs
+unfolding valuesGiven
+first-value (pos n) ls bs cs e =
+    let t = let-through (leb n (length bs)) _ cs e in
+    let b = before (some (take n bs), tt) (valuesGiven ls (drop n bs)) cs (t .1) in
+    record { fits = leb-true _ _ (t .0); right = λ h. let q = h .1 in let z : _≡_ {A = ℕ} 0 1 = cc in omega arith; rest = b .rest; was = b .was; is = b .is }
+first-value (negsuc zero) ls bs cs e =
+    let b = before (none, tt) (valuesGiven ls bs) cs e in
+    record { fits = omega arith; right = λ h. let q = h .1 in let y : 0 ≡ suc (h .0) = cc in omega arith; rest = b .rest; was = b .was; is = b .is }
+first-value (negsuc (suc n)) ls bs cs e = let z : _≡_ {A = ℕ} 0 1 = cc in absurd (omega arith)
+
+values-items : (ls : List ℤ) (bs : List ℕ) (cs : List (ItemContent nullable)) → valuesGiven ls bs ≡ some cs → (i : ℕ) (z : ℤ) → nth ls i ≡ some z → nth cs i ≡ some (valueAt z (total sizeOf (take i ls)) bs, tt)
+unfolding nth total
+values-items [] bs cs e i z h = let z : _≡_ {A = ℕ} 0 1 = cc in absurd (omega arith)
+values-items (y ∷ ls) bs cs e zero z h =
+    let q : y ≡ z = cc in
+    let f = first-value y ls bs cs e in
+    rw (f .is, q) refl
+values-items (y ∷ ls) bs cs e (suc i) z h =
+    let f = first-value y ls bs cs e in
+    rw (f .is) (values-items ls (drop (sizeOf y) bs) (f .rest) (f .was) i z h ∙ rw (value-shift z (sizeOf y) (total sizeOf (take i ls)) bs) refl)
+
+values-many : (ls : List ℤ) (bs : List ℕ) (cs : List (ItemContent nullable)) → valuesGiven ls bs ≡ some cs → length cs ≡ length ls
+unfolding valuesGiven
+values-many [] [] cs e = let q : [] ≡ cs = cc in rw (← q) refl
+values-many [] (b ∷ bs) cs e = let z : _≡_ {A = ℕ} 0 1 = cc in absurd (omega arith)
+values-many (z ∷ ls) bs cs e = let f = first-value z ls bs cs e in rw (f .is) (ap suc (values-many ls (drop (sizeOf z) bs) (f .rest) (f .was)))

@@ -1,0 +1,119 @@
+-- What is proved of encoding: a page to read by itself. An encoder of the kind k in the mode m is a function of the content that its arguments are,
+-- if they are one, and of the output before; it gives its answer and the output after. The theorems hold of `theEncoder`, which is what every
+-- encoder's contract says.
+use Prim.Native.Nat.{ℕ, _≤_, _<_}
+use mathlib.Core.Bool.{Bool, true, false}
+use mathlib.Core.List.{List, [], _∷_, _++_, map}
+use mathlib.Core.Logic.{_⊎_, _↔_}
+use mathlib.Core.Option.{Option, some, none}
+use mathlib.Core.Path.{_≡_}
+use lib.IntN.{ℤ, negsuc}
+use lib.ListN.{length, take, drop}
+use Rattle.protocol.specs.declared.Decoded.the-variants as D
+use Rattle.protocol.specs.declared.Encoded.the-variants as N
+use Rattle.protocol.specs.declared.Encoded.{Encoded}
+use Rattle.protocol.specs.declared.Rules.{Rules}
+use Rattle.protocol.specs.declared.data.FieldDescription.{FieldDescription}
+use Rattle.protocol.specs.Each.{slotsOfEach}
+use Rattle.protocol.specs.Encode.{items, valuesGiven, errorFieldsGiven, rowFieldGiven, rowFieldsGiven, encodedBy, writtenBy, Encodes}
+use Rattle.protocol.specs.Fields.{ItemContent, bytes, slot}
+use Rattle.protocol.specs.Kinds.{Kind, Mode, modes, IsIn, nullable, rowField, errorField}
+use Rattle.protocol.specs.Refusals.{lengthAboveLimit, outputTooShort, notRepresentable}
+use Rattle.protocol.specs.WellFormed.{Contents, bodyBytes, bodyStart, lengthOf, frame, AllInRange, allAble, recordOf}
+use Rattle.laws.specs.Arguments.{nth, Some, itself, sizeOf, total, BelowNull, valueAt, Outside}
+use Rattle.laws.specs.Items.{found, Answers}
+use Rattle.laws.specs.Places.{FieldsPlaced}
+use Rattle.laws.specs.Statements.{Decoder, ElementCall}
+
+pub record Outcome : Type 0 where
+  pub answer : Encoded
+  pub output : List ℕ
+
+abbrev pub Encoder : Type 0
+Encoder = (m : Mode) (k : Kind) → Option (Contents k) → List ℕ → Outcome
+
+abbrev pub theEncoder : Encoder
+theEncoder m k given out = record { answer = encodedBy m k given (length out); output = writtenBy m k given (encodedBy m k given (length out)) out }
+
+-- 0. Every encoder's contract says that it does what `theEncoder` does.
+abbrev pub Contracts : Encoder → Type 0
+Contracts encode =
+    (m : Mode) (k : Kind) (given : Option (Contents k)) (out : List ℕ) (r : Encoded) (left : List ℕ) → Encodes m k given out r left
+    → (r ≡ encode m k given out .answer) × (left ≡ encode m k given out .output)
+
+-- 1. Exactly. The arguments are a content that can be written; its length is within the limit; and there is room.
+abbrev pub Representable : Mode → (k : Kind) → Option (Contents k) → Type 0
+Representable m k given = (c : Contents k) × (given ≡ some c) × (allAble (record { mode = m .mode }) k c ≡ true)
+
+abbrev pub WithinLimit : Mode → (k : Kind) → Option (Contents k) → Type 0
+WithinLimit m k given = (c : Contents k) × (given ≡ some c) × (lengthOf (m .envelope) (length (bodyBytes k c)) ≤ k .limit)
+
+abbrev pub HasRoom : Mode → (k : Kind) → Option (Contents k) → List ℕ → Type 0
+HasRoom m k given out = (c : Contents k) × (given ≡ some c) × (length (frame (m .envelope) k c) ≤ length out)
+
+-- Refusal 10 exactly where they are not representable, then 4 exactly where the length is above the limit, then 9 exactly where there is no room, each at
+-- place 0; else it succeeds, and the output begins with the frame of the content.
+pub record EncodesExactly (encode : Encoder) (m : Mode) (k : Kind) (given : Option (Contents k)) (out : List ℕ) : Type 0 where
+  pub ten : (encode m k given out .answer ≡ N.Refused notRepresentable 0) ↔ (Representable m k given → ⊥)
+  pub four : (encode m k given out .answer ≡ N.Refused lengthAboveLimit 0) ↔ (Representable m k given × (WithinLimit m k given → ⊥))
+  pub nine : (encode m k given out .answer ≡ N.Refused outputTooShort 0) ↔ (Representable m k given × WithinLimit m k given × (HasRoom m k given out → ⊥))
+  pub done : (n : ℕ) → (encode m k given out .answer ≡ N.Done n) ↔ ((Representable m k given × WithinLimit m k given × HasRoom m k given out) × ((c : Contents k) → given ≡ some c → n ≡ length (frame (m .envelope) k c)))
+  pub writes : (n : ℕ) (c : Contents k) → given ≡ some c → encode m k given out .answer ≡ N.Done n → take n (encode m k given out .output) ≡ frame (m .envelope) k c
+
+abbrev pub Exactly : Encoder → Type 0
+Exactly encode = (m : Mode) (k : Kind) (given : Option (Contents k)) (out : List ℕ) → EncodesExactly encode m k given out
+
+-- 2. Unchanged. Refused, the output is what it was; and behind what was written it always is.
+pub record KeepsTheRest (encode : Encoder) (m : Mode) (k : Kind) (given : Option (Contents k)) (out : List ℕ) : Type 0 where
+  pub refused : (number place : ℕ) → encode m k given out .answer ≡ N.Refused number place → encode m k given out .output ≡ out
+  pub later : (n : ℕ) → encode m k given out .answer ≡ N.Done n → drop n (encode m k given out .output) ≡ drop n out
+
+abbrev pub Unchanged : Encoder → Type 0
+Unchanged encode = (m : Mode) (k : Kind) (given : Option (Contents k)) (out : List ℕ) → KeepsTheRest encode m k given out
+
+-- 3. Round trip. What was written, followed by any bytes, decodes, in every mode that has the kind, to the message of the content and consumes its own
+-- bytes only; each field's part is the content's, and each list's elements are the content's items.
+pub record Decodes (decode : Decoder) (call : ElementCall) (rules : Rules) (m : Mode) (k : Kind) (c : Contents k) (s : List ℕ) (n : ℕ) : Type 0 where
+  pub decoded : decode rules s ≡ D.Record (recordOf (m .envelope) k c) n
+  pub placed : FieldsPlaced s (k .body) (bodyStart (m .envelope)) (slotsOfEach bytes slot (k .body) (bodyStart (m .envelope)) c) c
+  pub elements : (l i : ℕ) → Answers s (found (k .body) (bodyStart (m .envelope)) c l i) (call rules s l i)
+
+abbrev pub RoundTrip : Encoder → Decoder → ElementCall → Type 0
+RoundTrip encode decode call =
+    (m : Mode) (k : Kind) (c : Contents k) (out t : List ℕ) (n : ℕ) → IsIn m modes → IsIn k (m .kinds) → AllInRange k c
+    → encode m k (some c) out .answer ≡ N.Done n
+    → (rules : Rules) (reads : Mode) → IsIn reads modes → reads .mode ≡ rules .mode → IsIn k (reads .kinds)
+    → Decodes decode call rules reads k c (take n (encode m k (some c) out .output) ++ t) n
+
+-- 4. Which content lists of arguments are. Values: one for each length, NULL exactly where the length is -1, else the bytes of the joined run after the
+-- earlier lengths, NULL as 0. They are none exactly where a length is below -1 or the lengths do not add up to the joined bytes.
+pub record ValuesAre (lengths : List ℤ) (joined : List ℕ) : Type 0 where
+  pub items : (cs : List (ItemContent nullable)) → valuesGiven lengths joined ≡ some cs → (i : ℕ) (z : ℤ) → nth lengths i ≡ some z → nth cs i ≡ some (valueAt z (total sizeOf (take i lengths)) joined, tt)
+  pub many : (cs : List (ItemContent nullable)) → valuesGiven lengths joined ≡ some cs → length cs ≡ length lengths
+  pub none : (valuesGiven lengths joined ≡ none) ↔ (Some BelowNull lengths ⊎ (total sizeOf lengths ≡ length joined → ⊥))
+
+abbrev pub Values : Type 0
+Values = (lengths : List ℤ) (joined : List ℕ) → ValuesAre lengths joined
+
+-- An error's fields: one for each code, with its string's bytes of the joined run after the earlier lengths. They are none exactly where codes and lengths
+-- differ in number, or the lengths do not add up to the joined bytes.
+pub record ErrorFieldsAre (codes lengths joined : List ℕ) : Type 0 where
+  pub items : (cs : List (ItemContent errorField)) → errorFieldsGiven codes lengths joined ≡ some cs → (i code n : ℕ) → nth codes i ≡ some code → nth lengths i ≡ some n → nth cs i ≡ some (code, (take n (drop (total itself (take i lengths)) joined), tt))
+  pub many : (cs : List (ItemContent errorField)) → errorFieldsGiven codes lengths joined ≡ some cs → length cs ≡ length codes
+  pub none : (errorFieldsGiven codes lengths joined ≡ none) ↔ ((length codes ≡ length lengths → ⊥) ⊎ (total itself lengths ≡ length joined → ⊥))
+
+abbrev pub ErrorFields : Type 0
+ErrorFields = (codes lengths joined : List ℕ) → ErrorFieldsAre codes lengths joined
+
+-- A row's fields: one for each record, its numbers and its name's part of the run; names may overlap. They are none exactly where a name reaches outside.
+pub record RowFieldsAre (fields : List FieldDescription) (run : List ℕ) : Type 0 where
+  pub items : (cs : List (ItemContent rowField)) → rowFieldsGiven fields run ≡ some cs → (i : ℕ) (d : FieldDescription) → nth fields i ≡ some d → nth cs i ≡ some (rowFieldGiven d run)
+  pub many : (cs : List (ItemContent rowField)) → rowFieldsGiven fields run ≡ some cs → length cs ≡ length fields
+  pub none : (rowFieldsGiven fields run ≡ none) ↔ Some (Outside run) fields
+
+abbrev pub RowFields : Type 0
+RowFields = (fields : List FieldDescription) (run : List ℕ) → RowFieldsAre fields run
+
+-- Oids and formats: one for each number.
+abbrev pub NumberItems : Type 1
+NumberItems = (A : Type 0) (xs : List A) (i : ℕ) (x : A) → nth xs i ≡ some x → nth (items xs) i ≡ some (x, tt)
