@@ -1,7 +1,7 @@
 // A case in text: a digit for the mode, then for each byte a space and two hexadecimal digits in upper case.
 
 // Room for a frame. Where no byte is given it holds zeros.
-pub const ROOM: usize = 512;
+pub const ROOM: usize = 1024;
 
 // The first bytes, as a buffer that has no others.
 pub fn first(frame: &[u8; ROOM], count: usize) -> &[u8] {
