@@ -1,0 +1,83 @@
+// Document 01's edges, run: each line of the input is a case in text, and is written back with what decode answers.
+ghost use Prim.Native.Nat.{_≤_};
+ghost use lib.ListN.{length};
+
+mod cuts;
+mod hex;
+mod record;
+mod text;
+
+use libc::STDIN_FILENO;
+
+// Where the line that begins at `start` ends.
+fn line_end(input: &[u8], start: usize) -> usize
+    requires { ⌜ start ≤ length (now input) ⌝ }
+    ensures { λ r. ⌜ (start ≤ r) × (r ≤ length (now (input .entry))) ⌝ }
+{
+    let mut end = start;
+    while end < input.len() {
+        if input[end] == b'\n' {
+            return end;
+        }
+        end += 1;
+    }
+    end
+}
+
+// A case: the frame as it is given.
+fn answer_whole(line: &[u8]) {
+    let mut frame = [0u8; hex::ROOM];
+    match hex::read_case(line, &mut frame) {
+        hex::Case::Of(mode, count) => {
+            record::write_decoded(decode::decode(mode, hex::first(&frame, count)))
+        }
+        hex::Case::Malformed => text::write(b"malformed case"),
+    }
+}
+
+// A case after the word `cuts` and a space: the frame cut at each byte.
+fn answer_cuts(line: &[u8]) {
+    let start: usize = 5;
+    if line.len() < start {
+        text::write(b"malformed case");
+        return;
+    }
+    let mut frame = [0u8; hex::ROOM];
+    match hex::read_case(&line[start..], &mut frame) {
+        hex::Case::Of(mode, count) => cuts::write_cuts(mode, frame, count),
+        hex::Case::Malformed => text::write(b"malformed case"),
+    }
+}
+
+// Every line is written back; what is no comment, with its answer.
+fn answer_line(line: &[u8]) {
+    text::write(line);
+    let kind = if line.len() == 0 { 0 } else { line[0] };
+    match kind {
+        b'#' => {}
+        b'c' => {
+            text::write(b" = ");
+            answer_cuts(line);
+        }
+        _ => {
+            text::write(b" = ");
+            answer_whole(line);
+        }
+    }
+    text::write(b"\n");
+}
+
+fn answer_lines(input: &[u8]) {
+    let mut start: usize = 0;
+    while start < input.len() {
+        let end = line_end(input, start);
+        answer_line(&input[start..end]);
+        start = end + 1;
+    }
+}
+
+fn main() {
+    let mut input = io::large_buffer();
+    let count = io::read_full(STDIN_FILENO, &mut input);
+    answer_lines(&input[..count]);
+}
