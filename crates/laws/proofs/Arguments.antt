@@ -1,8 +1,8 @@
 -- Which content lists of arguments are, item by item, and when they are none.
 use Prim.Native.Nat.{ℕ, zero, suc, _+_, _≤_, _<_}
-use mathlib.Core.Bool.{Bool, true, false, cond}
+use mathlib.Core.Bool.{Bool, true, false, cond, false≢true}
 use mathlib.Core.List.{List, [], _∷_}
-use mathlib.Core.Logic.{_⊎_, inl, inr, _↔_}
+use mathlib.Core.Logic.{_⊎_, inl, inr, ⊎-elim, ⊎-map, _↔_}
 use mathlib.Core.Option.{Option, some, none, Option·map}
 use mathlib.Core.Path.{_≡_, refl, ap, sym, _∙_}
 use native.Mathlib.Omega.{arith}
@@ -92,3 +92,51 @@ unfolding valuesGiven
 values-many [] [] cs e = let q : [] ≡ cs = cc in rw (← q) refl
 values-many [] (b ∷ bs) cs e = let z : _≡_ {A = ℕ} 0 1 = cc in absurd (omega arith)
 values-many (z ∷ ls) bs cs e = let f = first-value z ls bs cs e in rw (f .is) (ap suc (values-many ls (drop (sizeOf z) bs) (f .rest) (f .was)))
+
+values-right : (ls : List ℤ) (bs : List ℕ) (cs : List (ItemContent nullable)) → valuesGiven ls bs ≡ some cs → (Some BelowNull ls → ⊥) × (total sizeOf ls ≡ length bs)
+unfolding valuesGiven Some total
+values-right [] [] cs e = (λ h. h, refl)
+values-right [] (b ∷ bs) cs e = let z : _≡_ {A = ℕ} 0 1 = cc in absurd (omega arith)
+values-right (z ∷ ls) bs cs e =
+    let f = first-value z ls bs cs e in
+    let ih = values-right ls (drop (sizeOf z) bs) (f .rest) (f .was) in
+    (⊎-elim (f .right) (ih .0), omega (arith, f .fits, simp length-drop at (ih .1)))
+
+-- none, behind a test and a first item
+none-by : {A : Type 0} (x : A) (o : Option (List A)) (t : Bool) → cond t (oneBefore x o) none ≡ none → (t ≡ false) ⊎ (o ≡ none)
+none-by x o false e = inl refl
+none-by x none true e = inr refl
+none-by x (some cs) true e = let z : _≡_ {A = ℕ} 0 1 = cc in absurd (omega arith)
+
+-- n bytes are taken for the first: where there are fewer the total is wrong, and where it is wrong behind them it is wrong at all
+total-wrong : {A : Type 0} (size : A → ℕ) (x : A) (xs : List A) (bs : List ℕ) → (leb (size x) (length bs) ≡ false) ⊎ (total size xs ≡ length (drop (size x) bs) → ⊥) → size x + total size xs ≡ length bs → ⊥
+total-wrong size x xs bs (inl t) e = let l : length bs < size x = leb-false _ _ t in omega arith
+total-wrong size x xs bs (inr h) e = h (simp length-drop (omega arith))
+
+-- a first item of n bytes that is right: what is wrong is wrong behind it, or the total is
+wrong-behind : {A : Type 0} {B : Type 0} (P : A → Type 0) (size : A → ℕ) (x : A) (xs : List A) (bs : List ℕ) (y : B) (o : Option (List B)) → cond (leb (size x) (length bs)) (oneBefore y o) none ≡ none
+    → (o ≡ none → Some P xs ⊎ (total size xs ≡ length (drop (size x) bs) → ⊥)) → (P x ⊎ Some P xs) ⊎ (size x + total size xs ≡ length bs → ⊥)
+wrong-behind P size x xs bs y o e rest = by (none-by y o (leb (size x) (length bs)) e)
+  where
+    deeper : Some P xs ⊎ (total size xs ≡ length (drop (size x) bs) → ⊥) → (P x ⊎ Some P xs) ⊎ (size x + total size xs ≡ length bs → ⊥)
+    deeper (inl h) = inl (inr h)
+    deeper (inr h) = inr (total-wrong size x xs bs (inr h))
+
+    by : (leb (size x) (length bs) ≡ false) ⊎ (o ≡ none) → (P x ⊎ Some P xs) ⊎ (size x + total size xs ≡ length bs → ⊥)
+    by (inl t) = inr (total-wrong size x xs bs (inl t))
+    by (inr h) = deeper (rest h)
+
+values-wrong : (ls : List ℤ) (bs : List ℕ) → valuesGiven ls bs ≡ none → Some BelowNull ls ⊎ (total sizeOf ls ≡ length bs → ⊥)
+unfolding valuesGiven Some total
+values-wrong [] [] e = let z : _≡_ {A = ℕ} 0 1 = cc in absurd (omega arith)
+values-wrong [] (b ∷ bs) e = inr (λ h. omega arith)
+values-wrong (pos n ∷ ls) bs e = wrong-behind BelowNull sizeOf (pos n) ls bs (some (take n bs), tt) (valuesGiven ls (drop n bs)) e (values-wrong ls (drop n bs))
+values-wrong (negsuc zero ∷ ls) bs e = ⊎-map inr (λ h q. h (omega arith)) (values-wrong ls bs (⊎-elim (λ t. absurd (false≢true (sym t))) (λ h. h) (none-by (none, tt) (valuesGiven ls bs) true e)))
+values-wrong (negsuc (suc n) ∷ ls) bs e = inl (inl (n, refl))
+
+pub values : Values
+values ls bs = record {
+  items = values-items ls bs;
+  many = values-many ls bs;
+  none = none-exactly (valuesGiven ls bs) (λ cs e. ⊎-elim (values-right ls bs cs e .0) (λ h. h (values-right ls bs cs e .1))) (values-wrong ls bs);
+}
