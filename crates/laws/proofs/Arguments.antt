@@ -116,15 +116,10 @@ total-wrong size x xs bs (inr h) e = h (simp length-drop (omega arith))
 -- a first item of n bytes that is right: what is wrong is wrong behind it, or the total is
 wrong-behind : {A : Type 0} {B : Type 0} (P : A → Type 0) (size : A → ℕ) (x : A) (xs : List A) (bs : List ℕ) (y : B) (o : Option (List B)) → cond (leb (size x) (length bs)) (oneBefore y o) none ≡ none
     → (o ≡ none → Some P xs ⊎ (total size xs ≡ length (drop (size x) bs) → ⊥)) → (P x ⊎ Some P xs) ⊎ (size x + total size xs ≡ length bs → ⊥)
-wrong-behind P size x xs bs y o e rest = by (none-by y o (leb (size x) (length bs)) e)
-  where
-    deeper : Some P xs ⊎ (total size xs ≡ length (drop (size x) bs) → ⊥) → (P x ⊎ Some P xs) ⊎ (size x + total size xs ≡ length bs → ⊥)
-    deeper (inl h) = inl (inr h)
-    deeper (inr h) = inr (total-wrong size x xs bs (inr h))
-
-    by : (leb (size x) (length bs) ≡ false) ⊎ (o ≡ none) → (P x ⊎ Some P xs) ⊎ (size x + total size xs ≡ length bs → ⊥)
-    by (inl t) = inr (total-wrong size x xs bs (inl t))
-    by (inr h) = deeper (rest h)
+wrong-behind P size x xs bs y o e rest =
+    ⊎-elim (λ t. inr (total-wrong size x xs bs (inl t)))
+    (λ h. ⊎-map inr (λ w. total-wrong size x xs bs (inr w)) (rest h))
+    (none-by y o (leb (size x) (length bs)) e)
 
 values-wrong : (ls : List ℤ) (bs : List ℕ) → valuesGiven ls bs ≡ none → Some BelowNull ls ⊎ (total sizeOf ls ≡ length bs → ⊥)
 unfolding valuesGiven Some total
@@ -140,3 +135,118 @@ values ls bs = record {
   many = values-many ls bs;
   none = none-exactly (valuesGiven ls bs) (λ cs e. ⊎-elim (values-right ls bs cs e .0) (λ h. h (values-right ls bs cs e .1))) (values-wrong ls bs);
 }
+
+-- ---- an error's fields
+
+-- the first code and length, and the fields after them
+record FirstError (c n : ℕ) (cs ns bs : List ℕ) (fs : List (ItemContent errorField)) : Type 0 where
+  fits : n ≤ length bs
+  rest : List (ItemContent errorField)
+  was : errorFieldsGiven cs ns (drop n bs) ≡ some rest
+  is : fs ≡ (c, (take n bs, tt)) ∷ rest
+
+first-error : (c n : ℕ) (cs ns bs : List ℕ) (fs : List (ItemContent errorField)) → errorFieldsGiven (c ∷ cs) (n ∷ ns) bs ≡ some fs → FirstError c n cs ns bs fs
+unfolding errorFieldsGiven
+first-error c n cs ns bs fs e =
+    let t = let-through (leb n (length bs)) _ fs e in
+    let b = before (c, (take n bs, tt)) (errorFieldsGiven cs ns (drop n bs)) fs (t .1) in
+    record { fits = leb-true _ _ (t .0); rest = b .rest; was = b .was; is = b .is }
+
+errors-items : (cs ns bs : List ℕ) (fs : List (ItemContent errorField)) → errorFieldsGiven cs ns bs ≡ some fs → (i code n : ℕ) → nth cs i ≡ some code → nth ns i ≡ some n → nth fs i ≡ some (code, (take n (drop (total itself (take i ns)) bs), tt))
+unfolding nth total
+errors-items [] ns bs fs e i code n h g = let z : _≡_ {A = ℕ} 0 1 = cc in absurd (omega arith)
+errors-items (c ∷ cs) [] bs fs e i code n h g = let z : _≡_ {A = ℕ} 0 1 = cc in absurd (omega arith)
+errors-items (c ∷ cs) (m ∷ ns) bs fs e zero code n h g =
+    let q : c ≡ code = cc in
+    let p : m ≡ n = cc in
+    let f = first-error c m cs ns bs fs e in
+    rw (f .is, q, p) refl
+errors-items (c ∷ cs) (m ∷ ns) bs fs e (suc i) code n h g =
+    let f = first-error c m cs ns bs fs e in
+    rw (f .is) (errors-items cs ns (drop m bs) (f .rest) (f .was) i code n h g ∙ rw (drop-drop (total itself (take i ns)) m bs) refl)
+
+errors-right : (cs ns bs : List ℕ) (fs : List (ItemContent errorField)) → errorFieldsGiven cs ns bs ≡ some fs → (length fs ≡ length cs) × (length cs ≡ length ns) × (total itself ns ≡ length bs)
+unfolding errorFieldsGiven total
+errors-right [] [] [] fs e = let q : [] ≡ fs = cc in (rw (← q) refl, refl, refl)
+errors-right [] [] (b ∷ bs) fs e = let z : _≡_ {A = ℕ} 0 1 = cc in absurd (omega arith)
+errors-right [] (n ∷ ns) bs fs e = let z : _≡_ {A = ℕ} 0 1 = cc in absurd (omega arith)
+errors-right (c ∷ cs) [] bs fs e = let z : _≡_ {A = ℕ} 0 1 = cc in absurd (omega arith)
+errors-right (c ∷ cs) (n ∷ ns) bs fs e =
+    let f = first-error c n cs ns bs fs e in
+    let ih = errors-right cs ns (drop n bs) (f .rest) (f .was) in
+    (rw (f .is) (ap suc (ih .0)), ap suc (ih .1), omega (arith, f .fits, simp length-drop at (ih .2)))
+
+errors-wrong : (cs ns bs : List ℕ) → errorFieldsGiven cs ns bs ≡ none → (length cs ≡ length ns → ⊥) ⊎ (total itself ns ≡ length bs → ⊥)
+unfolding errorFieldsGiven total
+errors-wrong [] [] [] e = let z : _≡_ {A = ℕ} 0 1 = cc in absurd (omega arith)
+errors-wrong [] [] (b ∷ bs) e = inr (λ h. omega arith)
+errors-wrong [] (n ∷ ns) bs e = inl (λ h. omega arith)
+errors-wrong (c ∷ cs) [] bs e = inl (λ h. omega arith)
+errors-wrong (c ∷ cs) (n ∷ ns) bs e =
+    ⊎-elim (λ t. inr (total-wrong itself n ns bs (inl t)))
+    (λ h. ⊎-map (λ w q. w (omega arith)) (λ w. total-wrong itself n ns bs (inr w)) (errors-wrong cs ns (drop n bs) h))
+    (none-by (c, (take n bs, tt)) (errorFieldsGiven cs ns (drop n bs)) (leb n (length bs)) e)
+
+pub error-fields : ErrorFields
+error-fields cs ns bs = record {
+  items = errors-items cs ns bs;
+  many = λ fs e. errors-right cs ns bs fs e .0;
+  none = none-exactly (errorFieldsGiven cs ns bs) (λ fs e. ⊎-elim (λ w. w (errors-right cs ns bs fs e .1)) (λ w. w (errors-right cs ns bs fs e .2))) (errors-wrong cs ns bs);
+}
+
+-- ---- a row's fields
+
+abbrev inside : FieldDescription → List ℕ → Bool
+inside d run = leb (d .name .start + d .name .len) (length run)
+
+record FirstRow (d : FieldDescription) (ds : List FieldDescription) (run : List ℕ) (fs : List (ItemContent rowField)) : Type 0 where
+  fits : inside d run ≡ true
+  rest : List (ItemContent rowField)
+  was : rowFieldsGiven ds run ≡ some rest
+  is : fs ≡ rowFieldGiven d run ∷ rest
+
+first-row : (d : FieldDescription) (ds : List FieldDescription) (run : List ℕ) (fs : List (ItemContent rowField)) → rowFieldsGiven (d ∷ ds) run ≡ some fs → FirstRow d ds run fs
+unfolding rowFieldsGiven
+first-row d ds run fs e =
+    let t = let-through (inside d run) _ fs e in
+    let b = before (rowFieldGiven d run) (rowFieldsGiven ds run) fs (t .1) in
+    record { fits = t .0; rest = b .rest; was = b .was; is = b .is }
+
+rows-items : (ds : List FieldDescription) (run : List ℕ) (fs : List (ItemContent rowField)) → rowFieldsGiven ds run ≡ some fs → (i : ℕ) (d : FieldDescription) → nth ds i ≡ some d → nth fs i ≡ some (rowFieldGiven d run)
+unfolding nth
+rows-items [] run fs e i d h = let z : _≡_ {A = ℕ} 0 1 = cc in absurd (omega arith)
+rows-items (d ∷ ds) run fs e zero x h =
+    let q : d ≡ x = cc in
+    rw (first-row d ds run fs e .is, q) refl
+rows-items (d ∷ ds) run fs e (suc i) x h =
+    let f = first-row d ds run fs e in
+    rw (f .is) (rows-items ds run (f .rest) (f .was) i x h)
+
+rows-right : (ds : List FieldDescription) (run : List ℕ) (fs : List (ItemContent rowField)) → rowFieldsGiven ds run ≡ some fs → (length fs ≡ length ds) × (Some (Outside run) ds → ⊥)
+unfolding rowFieldsGiven Some
+rows-right [] run fs e = let q : [] ≡ fs = cc in (rw (← q) refl, λ h. h)
+rows-right (d ∷ ds) run fs e =
+    let f = first-row d ds run fs e in
+    let ih = rows-right ds run (f .rest) (f .was) in
+    let l : d .name .start + d .name .len ≤ length run = leb-true _ _ (f .fits) in
+    (rw (f .is) (ap suc (ih .0)), ⊎-elim (λ h. omega (arith, h, l)) (ih .1))
+
+rows-wrong : (ds : List FieldDescription) (run : List ℕ) → rowFieldsGiven ds run ≡ none → Some (Outside run) ds
+unfolding rowFieldsGiven Some
+rows-wrong [] run e = let z : _≡_ {A = ℕ} 0 1 = cc in absurd (omega arith)
+rows-wrong (d ∷ ds) run e = ⊎-map (λ t. leb-false _ _ t) (rows-wrong ds run) (none-by (rowFieldGiven d run) (rowFieldsGiven ds run) (inside d run) e)
+
+pub row-fields : RowFields
+row-fields ds run = record {
+  items = rows-items ds run;
+  many = λ fs e. rows-right ds run fs e .0;
+  none = none-exactly (rowFieldsGiven ds run) (λ fs e. rows-right ds run fs e .1) (rows-wrong ds run);
+}
+
+-- ---- oids and formats
+
+pub number-items : NumberItems
+unfolding nth
+number-items A [] i x e = let z : _≡_ {A = ℕ} 0 1 = cc in absurd (omega arith)
+number-items A (y ∷ xs) zero x e = let q : y ≡ x = cc in rw q refl
+number-items A (y ∷ xs) (suc i) x e = number-items A xs i x e
