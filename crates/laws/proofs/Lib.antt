@@ -13,6 +13,7 @@ pub mod Refusals
 pub mod Elements
 pub mod ElementCalls
 pub mod Arguments
+pub mod Encoding
 pub mod Edges
 pub mod Table
 pub mod Headers
