@@ -3,20 +3,23 @@ use Prim.Native.Nat.{ℕ, zero, suc, _+_, _≤_, _<_}
 use mathlib.Core.Bool.{Bool, true, false, cond, false≢true}
 use mathlib.Core.List.{List, [], _∷_}
 use mathlib.Core.Logic.{_⊎_, inl, inr, ⊎-elim, ⊎-map, _↔_}
-use mathlib.Core.Option.{Option, some, none, Option·map}
+use mathlib.Core.Option.{Option, some, none}
 use mathlib.Core.Path.{_≡_, refl, ap, sym, _∙_}
 use native.Mathlib.Omega.{arith}
-use borrow.Author.Tests.{leb-true, leb-false, le-leb, lt-leb}
+use borrow.Author.Tests.{leb-true, leb-false}
 use lib.Dec.{leb}
 use lib.IntN.{ℤ, pos, negsuc}
-use lib.ListN.{length, take, drop, length-drop}
+use lib.ListN.{length, take, drop, length-drop, length-take}
 use lib.Seq.{drop-drop}
 use Rattle.protocol.specs.declared.data.FieldDescription.{FieldDescription}
 use Rattle.protocol.specs.Encode.{items, oneBefore, valuesGiven, errorFieldsGiven, rowFieldGiven, rowFieldsGiven}
-use Rattle.protocol.specs.Fields.{ItemContent}
-use Rattle.protocol.specs.Kinds.{nullable, rowField, errorField}
-use Rattle.laws.specs.Arguments.{nth, Some, itself, sizeOf, total, BelowNull, valueAt, Outside}
-use Rattle.laws.specs.EncodeStatements.{ValuesAre, Values, ErrorFieldsAre, ErrorFields, RowFieldsAre, RowFields, NumberItems}
+use Rattle.protocol.specs.Bytes.{Bytes}
+use Rattle.protocol.specs.Each.{HoldsEach}
+use Rattle.protocol.specs.Fields.{ItemContent, ValueInRange, AtomInRange, ItemInRange, ItemsInRange}
+use Rattle.protocol.specs.Kinds.{oid, format, nullable, rowField, errorField}
+use Rattle.laws.specs.Arguments.{nth, Some, All, Unsigned, Signed, TypedField, itself, sizeOf, total, BelowNull, valueAt, Outside}
+use Rattle.laws.specs.EncodeStatements.{Values, ErrorFields, RowFields, NumberItems, ArgumentsInRange}
+use Rattle.laws.proofs.Numbers.{bytes-take, bytes-drop}
 
 -- ---- options
 
@@ -250,3 +253,50 @@ unfolding nth
 number-items A [] i x e = let z : _≡_ {A = ℕ} 0 1 = cc in absurd (omega arith)
 number-items A (y ∷ xs) zero x e = let q : y ≡ x = cc in rw q refl
 number-items A (y ∷ xs) (suc i) x e = number-items A xs i x e
+
+-- ---- arguments of their types are in range
+
+oids-range : (xs : List ℕ) → All (Unsigned 4) xs → ItemsInRange oid (items xs)
+unfolding All ItemsInRange ItemInRange HoldsEach AtomInRange
+oids-range [] h = tt
+oids-range (x ∷ xs) h = ((h .0, tt), oids-range xs (h .1))
+
+formats-range : (zs : List ℤ) → All (Signed 2) zs → ItemsInRange format (items zs)
+unfolding All ItemsInRange ItemInRange HoldsEach AtomInRange
+formats-range [] h = tt
+formats-range (z ∷ zs) h = ((h .0, tt), formats-range zs (h .1))
+
+value-range : (z : ℤ) (bs : List ℕ) → Signed 4 z → Bytes bs → ValueInRange (valueAt z 0 bs)
+unfolding ValueInRange
+value-range (pos n) bs h b = (bytes-take n bs b, simp length-take (omega (arith, h)))
+value-range (negsuc n) bs h b = tt
+
+values-range : (ls : List ℤ) (bs : List ℕ) (cs : List (ItemContent nullable)) → All (Signed 4) ls → Bytes bs → valuesGiven ls bs ≡ some cs → ItemsInRange nullable cs
+unfolding All valuesGiven ItemsInRange ItemInRange HoldsEach AtomInRange
+values-range [] [] cs h b e = let q : [] ≡ cs = cc in rw (← q) tt
+values-range [] (x ∷ bs) cs h b e = let z : _≡_ {A = ℕ} 0 1 = cc in absurd (omega arith)
+values-range (z ∷ ls) bs cs h b e =
+    let f = first-value z ls bs cs e in
+    rw (f .is) ((value-range z bs (h .0) b, tt), values-range ls (drop (sizeOf z) bs) (f .rest) (h .1) (bytes-drop (sizeOf z) bs b) (f .was))
+
+errors-range : (cs ns bs : List ℕ) (fs : List (ItemContent errorField)) → Bytes cs → Bytes bs → errorFieldsGiven cs ns bs ≡ some fs → ItemsInRange errorField fs
+unfolding errorFieldsGiven Bytes ItemsInRange ItemInRange HoldsEach AtomInRange
+errors-range [] [] [] fs h b e = let q : [] ≡ fs = cc in rw (← q) tt
+errors-range [] [] (x ∷ bs) fs h b e = let z : _≡_ {A = ℕ} 0 1 = cc in absurd (omega arith)
+errors-range [] (n ∷ ns) bs fs h b e = let z : _≡_ {A = ℕ} 0 1 = cc in absurd (omega arith)
+errors-range (c ∷ cs) [] bs fs h b e = let z : _≡_ {A = ℕ} 0 1 = cc in absurd (omega arith)
+errors-range (c ∷ cs) (n ∷ ns) bs fs h b e =
+    let f = first-error c n cs ns bs fs e in
+    rw (f .is) ((h .0, (bytes-take n bs b, tt)), errors-range cs ns (drop n bs) (f .rest) (h .1) (bytes-drop n bs b) (f .was))
+
+rows-range : (ds : List FieldDescription) (run : List ℕ) (fs : List (ItemContent rowField)) → All TypedField ds → Bytes run → rowFieldsGiven ds run ≡ some fs → ItemsInRange rowField fs
+unfolding All rowFieldsGiven ItemsInRange ItemInRange HoldsEach AtomInRange
+rows-range [] run fs h b e = let q : [] ≡ fs = cc in rw (← q) tt
+rows-range (d ∷ ds) run fs h b e =
+    let f = first-row d ds run fs e in
+    let t = h .0 in
+    let name = bytes-take (d .name .len) _ (bytes-drop (d .name .start) run b) in
+    rw (f .is) ((name, (t .table, (t .column, (t .type, (t .size, (t .modifier, (t .format, tt))))))), rows-range ds run (f .rest) (h .1) b (f .was))
+
+pub in-range : ArgumentsInRange
+in-range = record { oids = oids-range; formats = formats-range; values = values-range; errorFields = errors-range; rowFields = rows-range }

@@ -14,7 +14,7 @@ use Rattle.protocol.specs.declared.Encoded.the-variants as N
 use Rattle.protocol.specs.declared.Encoded.{Encoded}
 use Rattle.protocol.specs.declared.Rules.{Rules}
 use Rattle.protocol.specs.Each.{Each, ableEach, leastOfEach}
-use Rattle.protocol.specs.Encode.{encodedBy, writtenBy, Encodes}
+use Rattle.protocol.specs.Encode.{encodedBy, writtenBy}
 use Rattle.protocol.specs.Fields.{Atom, unsigned, signed, oneOf, text, value, rest, AtomContent, atomAble, Item, ItemContent, itemAble, itemsAble, Field, one, counted, ended, Content, able, least}
 use Rattle.protocol.specs.Kinds.{Envelope, typed, untyped, bare, Kind, Mode, modes, IsIn}
 use Rattle.protocol.specs.Refusals.{lengthAboveLimit, outputTooShort, notRepresentable}
