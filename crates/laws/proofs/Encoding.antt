@@ -26,9 +26,6 @@ use Rattle.laws.proofs.Elements.{elements}
 use Rattle.laws.proofs.Fields.{fields-placed}
 use Rattle.laws.proofs.Table.{smallest-is}
 
-pub contracts : Contracts theEncoder
-contracts m k given out r left e = (e .answer, e .output ∙ ap (λ (x : Encoded). writtenBy m k given x out) (e .answer))
-
 -- ---- the verdict, by its three tests
 
 abbrev judge : Bool → Bool → Bool → ℕ → Encoded
@@ -257,3 +254,8 @@ round-trip m k c out t n i j inRange e rules reads i2 is j2 =
       withinLimit = rw (← same) most;
     } in
     rw (written m k c out n e, ok .1, same) (decodes rules reads k c t w)
+
+-- ---- what the contracts say
+
+pub contracts : Contracts theEncoder
+contracts m k given out r left e = (e .answer, e .output ∙ ap (λ (x : Encoded). writtenBy m k given x out) (e .answer))
