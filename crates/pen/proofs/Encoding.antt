@@ -1,0 +1,165 @@
+-- From a verdict and what was written to an encoder's promise, for any mode, kind and content.
+use Prim.Native.Nat.{ℕ, _+_, _-_, _≤_, _<_, min}
+use mathlib.Core.Bool.{Bool, true, false, cond}
+use mathlib.Core.List.{List, _∷_, _++_}
+use mathlib.Core.Option.{Option, some, none}
+use mathlib.Core.Path.{_≡_, refl, ap, _∙_, sym}
+use native.Mathlib.Omega.{arith}
+use borrow.Author.Tests.{ltb-true, ltb-false, lt-ltb, le-ltb}
+use lib.Dec.{ltb}
+use lib.ListN.{length, drop, length-append}
+use Rattle.protocol.specs.declared.Encoded.the-variants as N
+use Rattle.protocol.specs.declared.Encoded.{Encoded}
+use Rattle.protocol.specs.Bytes.{be}
+use Rattle.protocol.specs.Encode.{encodedBy, writtenBy, Encodes}
+use Rattle.protocol.specs.Kinds.{Envelope, typed, untyped, bare, Kind, Mode}
+use Rattle.protocol.specs.Refusals.{lengthAboveLimit, outputTooShort, notRepresentable}
+use Rattle.protocol.specs.WellFormed.{Contents, bodyBytes, lengthOf, header, bodyStart, frame, allAble}
+use Rattle.pen.specs.Writing.{write, Wrote, verdictOf}
+use Rattle.pen.proofs.Laws.{_then_, front}
+
+-- ---- lengths
+
+-- the bytes that the length does not count
+abbrev pub uncounted : Envelope → ℕ
+uncounted typed = 1
+uncounted untyped = 0
+uncounted bare = 0
+
+length-header : (e : Envelope) (tag n : ℕ) → length (header e tag n) ≡ bodyStart e
+unfolding header be
+length-header typed tag n = refl
+length-header untyped tag n = refl
+length-header bare tag n = refl
+
+start-of : (e : Envelope) (n : ℕ) → bodyStart e + n ≡ lengthOf e n + uncounted e
+start-of typed n = omega arith
+start-of untyped n = omega arith
+start-of bare n = omega arith
+
+pub length-frame : (e : Envelope) (k : Kind) (c : Contents k) → length (frame e k c) ≡ lengthOf e (length (bodyBytes k c)) + uncounted e
+unfolding frame
+length-frame e k c =
+    let n = length (bodyBytes k c) in
+    omega (arith, length-append (header e (k .tag) n) (bodyBytes k c), length-header e (k .tag) n, start-of e n)
+
+-- ---- the frame, as it was written
+
+-- the head, for a frame of n bytes, and then the body
+pub framed : {d mid left : List ℕ} {n at next size : ℕ} (k : Kind) (c : Contents k)
+    → Wrote d 0 (header typed (k .tag) (n - 5)) 5 mid at → Wrote mid at (bodyBytes k c) size left next → n ≡ 5 + size
+    → left ≡ write d 0 (frame typed k c)
+unfolding frame
+framed {n = n} k c h b e =
+    let f : length (bodyBytes k c) ≡ n - 5 = omega (arith, b .size) in
+    rw f ((h then b) .bytes)
+
+-- ---- the verdict
+
+-- a size that stopped at the largest number gets the answer of the size itself
+cut : (able : Bool) (limit size more room : ℕ) → limit < 18446744073709551615
+    → verdictOf able limit (min size 18446744073709551615) more room ≡ verdictOf able limit size more room
+unfolding verdictOf
+cut able limit size more room low = by (ltb limit size) refl
+  where
+    by : (t : Bool) → ltb limit size ≡ t → verdictOf able limit (min size 18446744073709551615) more room ≡ verdictOf able limit size more room
+    by true e =
+        let h : limit < size = ltb-true _ _ e in
+        rw (e, lt-ltb limit (min size 18446744073709551615) (omega arith)) refl
+    by false e =
+        let h : size ≤ limit = ltb-false _ _ e in
+        let k : min size 18446744073709551615 ≡ size = omega arith in
+        rw k refl
+
+-- whether arguments can be written at all
+unfoldable pub ableOf : Mode → (k : Kind) → Option (Contents k) → Bool
+ableOf m k none = false
+ableOf m k (some c) = allAble (record { mode = m .mode }) k c
+
+-- r is the answer
+pub record Judged (m : Mode) (k : Kind) (given : Option (Contents k)) (room : ℕ) (r : Encoded) : Type 0 where
+  pub answer : r ≡ encodedBy m k given room
+
+module _ (m : Mode) (k : Kind) (low : k .limit < 18446744073709551615) where
+  -- of a content: the measured size counts only where the content can be written
+  judged-by : (c : Contents k) {size room : ℕ} {r : Encoded} (able : Bool)
+      → allAble (record { mode = m .mode }) k c ≡ able → (able ≡ true → size ≡ min (lengthOf (m .envelope) (length (bodyBytes k c))) 18446744073709551615)
+      → r ≡ verdictOf able (k .limit) size (uncounted (m .envelope)) room → Judged m k (some c) room r
+  unfolding encodedBy verdictOf
+  judged-by c {size} {room} {r} false same sized v = record { answer = v ∙ rw same refl }
+  judged-by c {size} {room} {r} true same sized v =
+      let n = lengthOf (m .envelope) (length (bodyBytes k c)) in
+      let u = uncounted (m .envelope) in
+      let e : verdictOf true (k .limit) size u room ≡ verdictOf true (k .limit) n u room = rw (sized refl) (cut true (k .limit) n u room low) in
+      record { answer = v ∙ e ∙ rw (same, length-frame (m .envelope) k c) refl }
+
+  pub judged : (c : Contents k) {able : Bool} {size room : ℕ} {r : Encoded}
+      → able ≡ allAble (record { mode = m .mode }) k c
+      → (able ≡ true → size ≡ min (lengthOf (m .envelope) (length (bodyBytes k c))) 18446744073709551615)
+      → r ≡ verdictOf able (k .limit) size (uncounted (m .envelope)) room → Judged m k (some c) room r
+  judged c {able} same sized v = judged-by c able (sym same) sized v
+
+  -- of arguments that may be no content
+  pub judged-given : (given : Option (Contents k)) {able : Bool} {size room : ℕ} {r : Encoded}
+      → able ≡ ableOf m k given
+      → ((c : Contents k) → given ≡ some c → able ≡ true → size ≡ min (lengthOf (m .envelope) (length (bodyBytes k c))) 18446744073709551615)
+      → r ≡ verdictOf able (k .limit) size (uncounted (m .envelope)) room → Judged m k given room r
+  unfolding ableOf encodedBy verdictOf
+  judged-given none same sized v = record { answer = v ∙ rw same refl }
+  judged-given (some c) same sized v = judged c same (sized c refl) v
+
+-- ---- where the answer is a number of bytes
+
+-- what is known of a frame of n bytes that is to be written
+pub record Room (m : Mode) (k : Kind) (c : Contents k) (room n : ℕ) : Type 0 where
+  pub able : allAble (record { mode = m .mode }) k c ≡ true
+  pub whole : n ≡ lengthOf (m .envelope) (length (bodyBytes k c)) + uncounted (m .envelope)
+  pub small : lengthOf (m .envelope) (length (bodyBytes k c)) ≤ k .limit
+  pub fits : n ≤ room
+
+room-by : (limit size whole room n : ℕ) (able a b : Bool) → ltb limit size ≡ a → ltb room whole ≡ b
+    → cond able (cond a (N.Refused lengthAboveLimit 0) (cond b (N.Refused outputTooShort 0) (N.Done whole))) (N.Refused notRepresentable 0) ≡ N.Done n
+    → (able ≡ true) × (n ≡ whole) × (size ≤ limit) × (whole ≤ room)
+room-by limit size whole room n true false false ea eb e = (refl, cc, ltb-false _ _ ea, ltb-false _ _ eb)
+room-by limit size whole room n true true b ea eb e = let z : _≡_ {A = ℕ} 0 1 = cc in absurd (omega arith)
+room-by limit size whole room n true false true ea eb e = let z : _≡_ {A = ℕ} 0 1 = cc in absurd (omega arith)
+room-by limit size whole room n false a b ea eb e = let z : _≡_ {A = ℕ} 0 1 = cc in absurd (omega arith)
+
+pub roomOf : (m : Mode) (k : Kind) (c : Contents k) {room n : ℕ} {r : Encoded} → Judged m k (some c) room r → r ≡ N.Done n → Room m k c room n
+unfolding encodedBy
+roomOf m k c {room} {n} v is =
+    let size = lengthOf (m .envelope) (length (bodyBytes k c)) in
+    let whole = length (frame (m .envelope) k c) in
+    let able = allAble (record { mode = m .mode }) k c in
+    let h = room-by (k .limit) size whole room n able (ltb (k .limit) size) (ltb room whole) refl refl (sym (v .answer) ∙ is) in
+    record { able = h .0; whole = h .1 ∙ length-frame (m .envelope) k c; small = h .2; fits = omega (arith, h .1, h .3) }
+
+-- arguments that are written are a content
+pub record Some {A : Type 0} (o : Option A) : Type 0 where
+  pub it : A
+  pub is : o ≡ some it
+
+pub someOf : (m : Mode) (k : Kind) (given : Option (Contents k)) {room n : ℕ} {r : Encoded} → Judged m k given room r → r ≡ N.Done n → Some given
+unfolding encodedBy
+someOf m k none v is = let e : N.Refused notRepresentable 0 ≡ N.Done _ = sym (v .answer) ∙ is in let z : _≡_ {A = ℕ} 0 1 = cc in absurd (omega arith)
+someOf m k (some c) v is = record { it = c; is = refl }
+
+-- ---- the two returns of an encoder
+
+pub refused : {m : Mode} {k : Kind} {given : Option (Contents k)} {out : List ℕ} {number place : ℕ} {r : Encoded}
+    → Judged m k given (length out) r → r ≡ N.Refused number place → Encodes m k given out r out
+unfolding writtenBy
+refused {m} {k} {given} {out} {number} {place} {r} v is = record { answer = v .answer; output = rw is (by given) }
+  where
+    by : (g : Option (Contents k)) → out ≡ writtenBy m k g (N.Refused number place) out
+    by none = refl
+    by (some c) = refl
+
+pub done : (m : Mode) (k : Kind) (c : Contents k) {out left : List ℕ} {n : ℕ} {r : Encoded}
+    → Judged m k (some c) (length out) r → r ≡ N.Done n → left ≡ write out 0 (frame (m .envelope) k c) → Encodes m k (some c) out (N.Done n) left
+unfolding writtenBy
+done m k c {out} {left} {n} v is w =
+    let f = frame (m .envelope) k c in
+    let h = roomOf m k c v is in
+    let e : n ≡ length f = h .whole ∙ sym (length-frame (m .envelope) k c) in
+    record { answer = sym is ∙ v .answer; output = w ∙ front out f (omega (arith, e, h .fits)) ∙ rw e refl }
