@@ -15,7 +15,7 @@ use Rattle.protocol.specs.Encode.{encodedBy, writtenBy, Encodes}
 use Rattle.protocol.specs.Kinds.{Envelope, typed, untyped, bare, Kind, Mode}
 use Rattle.protocol.specs.Refusals.{lengthAboveLimit, outputTooShort, notRepresentable}
 use Rattle.protocol.specs.WellFormed.{Contents, bodyBytes, lengthOf, header, bodyStart, frame, allAble}
-use Rattle.pen.specs.Writing.{write, Wrote, verdictOf}
+use Rattle.pen.specs.Writing.{write, Wrote, Framed, verdictOf}
 use Rattle.pen.proofs.Laws.{_then_, front}
 
 -- ---- lengths
@@ -45,14 +45,18 @@ length-frame e k c =
 
 -- ---- the frame, as it was written
 
+only : {A : Type 0} {x y : A} → some x ≡ some y → x ≡ y
+only e = cc
+
 -- the head, for a frame of n bytes, and then the body
 pub framed : {d mid left : List ℕ} {n at next size : ℕ} (k : Kind) (c : Contents k)
     → Wrote d 0 (header typed (k .tag) (n - 5)) 5 mid at → Wrote mid at (bodyBytes k c) size left next → n ≡ 5 + size
-    → left ≡ write d 0 (frame typed k c)
+    → Framed typed k (some c) d left
 unfolding frame
-framed {n = n} k c h b e =
+framed {d} {mid} {left} {n} k c h b e =
     let f : length (bodyBytes k c) ≡ n - 5 = omega (arith, b .size) in
-    rw f ((h then b) .bytes)
+    let w : left ≡ write d 0 (frame typed k c) = rw f ((h then b) .bytes) in
+    record { bytes = λ x is. w ∙ ap (λ (y : Contents k). write d 0 (frame typed k y)) (only is) }
 
 -- ---- the verdict
 
@@ -155,11 +159,12 @@ refused {m} {k} {given} {out} {number} {place} {r} v is = record { answer = v .a
     by none = refl
     by (some c) = refl
 
-pub done : (m : Mode) (k : Kind) (c : Contents k) {out left : List ℕ} {n : ℕ} {r : Encoded}
-    → Judged m k (some c) (length out) r → r ≡ N.Done n → left ≡ write out 0 (frame (m .envelope) k c) → Encodes m k (some c) out (N.Done n) left
+pub done : (m : Mode) (k : Kind) (given : Option (Contents k)) {out left : List ℕ} {n : ℕ} {r : Encoded}
+    → Judged m k given (length out) r → r ≡ N.Done n → Framed (m .envelope) k given out left → Encodes m k given out (N.Done n) left
 unfolding writtenBy
-done m k c {out} {left} {n} v is w =
+done m k none v is w = let z = someOf m k none v is .is in let y : _≡_ {A = ℕ} 0 1 = cc in absurd (omega arith)
+done m k (some c) {out} {left} {n} v is w =
     let f = frame (m .envelope) k c in
     let h = roomOf m k c v is in
     let e : n ≡ length f = h .whole ∙ sym (length-frame (m .envelope) k c) in
-    record { answer = sym is ∙ v .answer; output = w ∙ front out f (omega (arith, e, h .fits)) ∙ rw e refl }
+    record { answer = sym is ∙ v .answer; output = w .bytes c refl ∙ front out f (omega (arith, e, h .fits)) ∙ rw e refl }

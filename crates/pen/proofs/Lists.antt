@@ -1,9 +1,10 @@
--- Lists of numbers, as items: their bytes at each turn of a loop, how many they are, and that they can be written.
+-- Fields: how long their bytes are, whether they can be written, and a list's bytes at each turn of a loop.
 use Prim.Native.Nat.{ℕ, _+_, _*_, _≤_, _<_}
-use mathlib.Core.Bool.{true}
+use mathlib.Core.Bool.{Bool, true, false, _&&_}
 use mathlib.Core.List.{List, [], _∷_, _++_, append-nil}
 use mathlib.Core.Path.{_≡_, refl, ap, _∙_}
 use native.Mathlib.Omega.{arith}
+use lib.Dec.{leb}
 use lib.IntN.{ℤ, pos}
 use lib.ListN.{length, getD, drop, length-append}
 use lib.Signed.{mag}
@@ -11,11 +12,11 @@ use mir.Syntax.{w16}
 use mir.Val.{toZ, ofZ}
 use mir.ValLaws.{toZ-ofZ}
 use Rattle.protocol.specs.declared.Rules.{Rules}
-use Rattle.protocol.specs.Bytes.{be, bitsOf}
+use Rattle.protocol.specs.Bytes.{noZero, be, bitsOf}
 use Rattle.protocol.specs.Each.{bytesOfEach, ableEach}
 use Rattle.protocol.specs.Encode.{items}
-use Rattle.protocol.specs.Fields.{atomBytes, atomAble, itemBytes, itemAble, itemsBytes, itemsAble}
-use Rattle.protocol.specs.Kinds.{oid, format}
+use Rattle.protocol.specs.Fields.{able, bytes, atomBytes, atomAble, itemBytes, itemAble, itemsBytes, itemsAble}
+use Rattle.protocol.specs.Kinds.{string, i32, oid, format, oids, formats}
 use Rattle.pen.proofs.Laws.{drop-more}
 
 pub length-items : {A : Type 0} (xs : List A) → length (items xs) ≡ length xs
@@ -57,3 +58,45 @@ pub able-halves : (rules : Rules) (zs : List ℤ) → itemsAble rules format (it
 unfolding itemsAble itemAble ableEach atomAble
 able-halves rules [] = refl
 able-halves rules (z ∷ zs) = able-halves rules zs
+
+-- ---- fields
+
+pub and-true : (a : Bool) → a && true ≡ a
+and-true true = refl
+and-true false = refl
+
+pub and-right : (a : Bool) {b : Bool} → a && b ≡ true → b ≡ true
+and-right true e = e
+and-right false e = let z : _≡_ {A = ℕ} 0 1 = cc in absurd (omega arith)
+
+pub able-text : (rules : Rules) (s : List ℕ) → able rules string s ≡ noZero s
+unfolding able atomAble
+able-text rules s = refl
+
+pub length-text : (s : List ℕ) → length (bytes string s) ≡ length s + 1
+unfolding bytes atomBytes
+length-text s = length-append s (0 ∷ [])
+
+pub able-i32 : (rules : Rules) (z : ℤ) → able rules i32 z ≡ true
+unfolding able atomAble
+able-i32 rules z = refl
+
+pub length-i32 : (z : ℤ) → length (bytes i32 z) ≡ 4
+unfolding bytes atomBytes be
+length-i32 z = refl
+
+pub able-oids : (rules : Rules) (xs : List ℕ) → able rules oids (items xs) ≡ leb (length xs) 32767
+unfolding able
+able-oids rules xs = rw (length-items xs, able-words rules xs) (and-true (leb (length xs) 32767))
+
+pub length-oids : (xs : List ℕ) → length (bytes oids (items xs)) ≡ 2 + 4 * length xs
+unfolding bytes be
+length-oids xs = omega (arith, length-words xs)
+
+pub able-formats : (rules : Rules) (zs : List ℤ) → able rules formats (items zs) ≡ leb (length zs) 32767
+unfolding able
+able-formats rules zs = rw (length-items zs, able-halves rules zs) (and-true (leb (length zs) 32767))
+
+pub length-formats : (zs : List ℤ) → length (bytes formats (items zs)) ≡ 2 + 2 * length zs
+unfolding bytes be
+length-formats zs = omega (arith, length-halves zs)

@@ -2,12 +2,15 @@
 use Prim.Native.Nat.{ℕ, _+_}
 use mathlib.Core.Bool.{Bool, cond}
 use mathlib.Core.List.{List, [], _∷_}
+use mathlib.Core.Option.{Option, some}
 use mathlib.Core.Path.{_≡_}
 use lib.Dec.{ltb}
 use lib.ListN.{length, set}
 use Rattle.protocol.specs.declared.Encoded.the-variants as N
 use Rattle.protocol.specs.declared.Encoded.{Encoded}
+use Rattle.protocol.specs.Kinds.{Envelope, Kind}
 use Rattle.protocol.specs.Refusals.{lengthAboveLimit, outputTooShort, notRepresentable}
+use Rattle.protocol.specs.WellFormed.{Contents, frame}
 
 -- d with xs stored from p on
 abbrev pub write : List ℕ → ℕ → List ℕ → List ℕ
@@ -19,6 +22,10 @@ pub record Wrote (d : List ℕ) (p : ℕ) (xs : List ℕ) (n : ℕ) (out : List 
   pub bytes : out ≡ write d p xs
   pub size : length xs ≡ n
   pub place : next ≡ p + n
+
+-- left is d with the frame of what is given stored at its start
+pub record Framed (e : Envelope) (k : Kind) (given : Option (Contents k)) (d left : List ℕ) : Type 0 where
+  pub bytes : (c : Contents k) → given ≡ some c → left ≡ write d 0 (frame e k c)
 
 -- the answer to a frame whose length is size, with uncounted bytes that it does not count
 unfoldable pub verdictOf : Bool → ℕ → ℕ → ℕ → ℕ → Encoded

@@ -178,11 +178,11 @@ pub fn plus4(a: usize, b: usize, c: usize, d: usize) -> usize
 }
 
 // The answer to a frame whose length word is size, before anything of it is written.
-pub fn verdict(able: bool, limit: usize, size: usize, room: usize) -> Encoded
+pub fn verdict(able: bool, limit: u32, size: usize, room: usize) -> Encoded
     ensures { λ r. ⌜ r ≡ verdictOf able limit size 1 room ⌝ }
 {
     if able {
-        if limit < size {
+        if (limit as usize) < size {
             return Encoded::Refused(LENGTH_ABOVE_LIMIT, 0);
         }
         if size < room {
