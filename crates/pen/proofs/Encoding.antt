@@ -97,11 +97,11 @@ module _ (m : Mode) (k : Kind) (low : k .limit < 18446744073709551615) where
       let e : verdictOf true (k .limit) size u room ≡ verdictOf true (k .limit) n u room = rw (sized refl) (cut true (k .limit) n u room low) in
       record { answer = v ∙ e ∙ rw (same, length-frame (m .envelope) k c) refl }
 
-  pub judged : (c : Contents k) {able : Bool} {size room : ℕ} {r : Encoded}
+  judged-some : (c : Contents k) {able : Bool} {size room : ℕ} {r : Encoded}
       → able ≡ allAble (record { mode = m .mode }) k c
       → (able ≡ true → size ≡ min (lengthOf (m .envelope) (length (bodyBytes k c))) 18446744073709551615)
       → r ≡ verdictOf able (k .limit) size (uncounted (m .envelope)) room → Judged m k (some c) room r
-  judged c {able} same sized v = judged-by c able (sym same) sized v
+  judged-some c {able} same sized v = judged-by c able (sym same) sized v
 
   -- of arguments that may be no content
   pub judged-given : (given : Option (Contents k)) {able : Bool} {size room : ℕ} {r : Encoded}
@@ -110,15 +110,15 @@ module _ (m : Mode) (k : Kind) (low : k .limit < 18446744073709551615) where
       → r ≡ verdictOf able (k .limit) size (uncounted (m .envelope)) room → Judged m k given room r
   unfolding ableOf encodedBy verdictOf
   judged-given none same sized v = record { answer = v ∙ rw same refl }
-  judged-given (some c) same sized v = judged c same (sized c refl) v
+  judged-given (some c) same sized v = judged-some c same (sized c refl) v
 
 -- ---- where the answer is a number of bytes
 
 -- what is known of a frame of n bytes that is to be written
-pub record Room (m : Mode) (k : Kind) (c : Contents k) (room n : ℕ) : Type 0 where
-  pub able : allAble (record { mode = m .mode }) k c ≡ true
-  pub whole : n ≡ lengthOf (m .envelope) (length (bodyBytes k c)) + uncounted (m .envelope)
-  pub small : lengthOf (m .envelope) (length (bodyBytes k c)) ≤ k .limit
+pub record Room (can : Bool) (limit size room n : ℕ) : Type 0 where
+  pub able : can ≡ true
+  pub whole : n ≡ size
+  pub small : n ≤ limit
   pub fits : n ≤ room
 
 room-by : (limit size whole room n : ℕ) (able a b : Bool) → ltb limit size ≡ a → ltb room whole ≡ b
@@ -129,24 +129,27 @@ room-by limit size whole room n true true b ea eb e = let z : _≡_ {A = ℕ} 0 
 room-by limit size whole room n true false true ea eb e = let z : _≡_ {A = ℕ} 0 1 = cc in absurd (omega arith)
 room-by limit size whole room n false a b ea eb e = let z : _≡_ {A = ℕ} 0 1 = cc in absurd (omega arith)
 
-pub roomOf : (m : Mode) (k : Kind) (c : Contents k) {room n : ℕ} {r : Encoded} → Judged m k (some c) room r → r ≡ N.Done n → Room m k c room n
-unfolding encodedBy
-roomOf m k c {room} {n} v is =
+-- what is written is a content
+pub record Written (m : Mode) (k : Kind) (given : Option (Contents k)) (room n : ℕ) : Type 0 where
+  pub it : Contents k
+  pub is : given ≡ some it
+  pub able : ableOf m k given ≡ true
+  pub whole : n ≡ lengthOf (m .envelope) (length (bodyBytes k it)) + uncounted (m .envelope)
+  pub small : lengthOf (m .envelope) (length (bodyBytes k it)) ≤ k .limit
+  pub fits : n ≤ room
+
+pub writtenOf : (m : Mode) (k : Kind) (given : Option (Contents k)) {room n : ℕ} {r : Encoded} → Judged m k given room r → r ≡ N.Done n → Written m k given room n
+unfolding encodedBy ableOf
+writtenOf m k none {room} {n} v is =
+    let e : N.Refused notRepresentable 0 ≡ N.Done n = sym (v .answer) ∙ is in
+    let z : _≡_ {A = ℕ} 0 1 = cc in
+    absurd (omega arith)
+writtenOf m k (some c) {room} {n} v is =
     let size = lengthOf (m .envelope) (length (bodyBytes k c)) in
     let whole = length (frame (m .envelope) k c) in
     let able = allAble (record { mode = m .mode }) k c in
     let h = room-by (k .limit) size whole room n able (ltb (k .limit) size) (ltb room whole) refl refl (sym (v .answer) ∙ is) in
-    record { able = h .0; whole = h .1 ∙ length-frame (m .envelope) k c; small = h .2; fits = omega (arith, h .1, h .3) }
-
--- arguments that are written are a content
-pub record Some {A : Type 0} (o : Option A) : Type 0 where
-  pub it : A
-  pub is : o ≡ some it
-
-pub someOf : (m : Mode) (k : Kind) (given : Option (Contents k)) {room n : ℕ} {r : Encoded} → Judged m k given room r → r ≡ N.Done n → Some given
-unfolding encodedBy
-someOf m k none v is = let e : N.Refused notRepresentable 0 ≡ N.Done _ = sym (v .answer) ∙ is in let z : _≡_ {A = ℕ} 0 1 = cc in absurd (omega arith)
-someOf m k (some c) v is = record { it = c; is = refl }
+    record { it = c; is = refl; able = h .0; whole = h .1 ∙ length-frame (m .envelope) k c; small = h .2; fits = omega (arith, h .1, h .3) }
 
 -- ---- the two returns of an encoder
 
@@ -159,12 +162,54 @@ refused {m} {k} {given} {out} {number} {place} {r} v is = record { answer = v .a
     by none = refl
     by (some c) = refl
 
-pub done : (m : Mode) (k : Kind) (given : Option (Contents k)) {out left : List ℕ} {n : ℕ} {r : Encoded}
+pub done : {m : Mode} {k : Kind} {given : Option (Contents k)} {out left : List ℕ} {n : ℕ} {r : Encoded}
     → Judged m k given (length out) r → r ≡ N.Done n → Framed (m .envelope) k given out left → Encodes m k given out (N.Done n) left
 unfolding writtenBy
-done m k none v is w = let z = someOf m k none v is .is in let y : _≡_ {A = ℕ} 0 1 = cc in absurd (omega arith)
-done m k (some c) {out} {left} {n} v is w =
-    let f = frame (m .envelope) k c in
-    let h = roomOf m k c v is in
-    let e : n ≡ length f = h .whole ∙ sym (length-frame (m .envelope) k c) in
-    record { answer = sym is ∙ v .answer; output = w .bytes c refl ∙ front out f (omega (arith, e, h .fits)) ∙ rw e refl }
+done {m} {k} {given} {out} {left} {n} v is w =
+    let h = writtenOf m k given v is in
+    let f = frame (m .envelope) k (h .it) in
+    let e : n ≡ length f = h .whole ∙ sym (length-frame (m .envelope) k (h .it)) in
+    let l : left ≡ f ++ drop n out = w .bytes (h .it) (h .is) ∙ front out f (omega (arith, e, h .fits)) ∙ ap (λ (i : ℕ). f ++ drop i out) (sym e) in
+    record { answer = sym is ∙ v .answer; output = rw (h .is) l }
+
+-- ---- the same for frames with a type byte, in plain numbers
+
+-- what is to be known of a kind's arguments: its limit, whether they can be written, and how many bytes their body has
+pub record Measured (m : Mode) (k : Kind) (given : Option (Contents k)) (most : ℕ) (can : Bool) (n : ℕ) : Type 0 where
+  pub envelope : m .envelope ≡ typed
+  pub limit : k .limit ≡ most
+  pub able : ableOf m k given ≡ can
+  pub size : (c : Contents k) → given ≡ some c → length (bodyBytes k c) ≡ n
+
+pub measured : (m : Mode) (k : Kind) (c : Contents k) {limit : ℕ} {able : Bool} {size : ℕ}
+    → m .envelope ≡ typed → k .limit ≡ limit → allAble (record { mode = m .mode }) k c ≡ able → length (bodyBytes k c) ≡ size
+    → Measured m k (some c) limit able size
+unfolding ableOf
+measured m k c e l a s = record {
+  envelope = e;
+  limit = l;
+  able = a;
+  size = λ x is. ap (λ (y : Contents k). length (bodyBytes k y)) (sym (only is)) ∙ s;
+}
+
+typed-is : (e : Envelope) (n : ℕ) → e ≡ typed → (lengthOf e n ≡ 4 + n) × (uncounted e ≡ 1)
+typed-is e n is = rw is (refl, refl)
+
+module _ {m : Mode} {k : Kind} {given : Option (Contents k)} {limit : ℕ} {able : Bool} {size : ℕ} (x : Measured m k given limit able size) where
+  pub judged : {able′ : Bool} {size′ room : ℕ} {r : Encoded} → limit < 18446744073709551615 → able′ ≡ able
+      → (able ≡ true → size′ ≡ min (4 + size) 18446744073709551615) → r ≡ verdictOf able′ limit size′ 1 room → Judged m k given room r
+  judged {able′} {size′} {room} {r} low same sized v =
+      judged-given m k (omega (arith, low, x .limit)) given {size = size′} (same ∙ sym (x .able))
+      (λ c is t. rw (x .envelope, x .size c is) (sized (sym same ∙ t)))
+      (rw (x .limit, x .envelope) v)
+
+  pub roomOf : {room n : ℕ} {r : Encoded} → Judged m k given room r → r ≡ N.Done n → Room able (limit + 1) (5 + size) room n
+  roomOf {room} {n} v is =
+      let h = writtenOf m k given v is in
+      let t = typed-is (m .envelope) (length (bodyBytes k (h .it))) (x .envelope) in
+      let w : n ≡ 5 + size = omega (arith, h .whole, t .0, t .1, x .size (h .it) (h .is)) in
+      record { able = sym (x .able) ∙ h .able; whole = w; small = omega (arith, w, h .small, t .0, x .limit, x .size (h .it) (h .is)); fits = h .fits }
+
+  pub finished : {out left : List ℕ} {n : ℕ} {r : Encoded}
+      → Judged m k given (length out) r → r ≡ N.Done n → Framed typed k given out left → Encodes m k given out (N.Done n) left
+  finished v is w = done v is (rw (x .envelope) w)
