@@ -9,7 +9,7 @@ use Rattle.protocol.specs.declared.Message.{Message}
 use Rattle.protocol.specs.Each.{Each, ableEach, bytesOfEach}
 use Rattle.protocol.specs.Encode.{encodedBy, writtenBy, Encodes}
 use Rattle.protocol.specs.Fields.{Slot}
-use Rattle.protocol.specs.Kinds.{Kind, Mode, frontend, typed, small}
+use Rattle.protocol.specs.Kinds.{Mode, frontend, typed, small}
 use Rattle.protocol.specs.WellFormed.{bodyBytes, frame}
 use Rattle.encode.specs.Given.{fieldless}
 

@@ -19,9 +19,13 @@ use pen::put_text;
 use pen::put_word;
 use pen::verdict;
 use protocol::Encoded;
+use protocol::extendedquery::MESSAGE_TYPE_BYTE_BIND_COMPLETE;
+use protocol::extendedquery::MESSAGE_TYPE_BYTE_CLOSE_COMPLETE;
 use protocol::extendedquery::MESSAGE_TYPE_BYTE_EXECUTE;
 use protocol::extendedquery::MESSAGE_TYPE_BYTE_FLUSH;
 use protocol::extendedquery::MESSAGE_TYPE_BYTE_PARSE;
+use protocol::extendedquery::MESSAGE_TYPE_BYTE_PARSE_COMPLETE;
+use protocol::extendedquery::MESSAGE_TYPE_BYTE_PORTAL_SUSPENDED;
 use protocol::extendedquery::MESSAGE_TYPE_BYTE_SYNC;
 use protocol::kinds::LARGE;
 use protocol::kinds::SMALL;
@@ -83,4 +87,28 @@ pub fn sync(out: &mut [u8]) -> Encoded
     ensures { λ r. ⌜ Encodes K.frontend K.sync G.sync (now (out .entry)) r (now (out .exit)) ⌝ }
 {
     bare(MESSAGE_TYPE_BYTE_SYNC, out)
+}
+
+pub fn parse_complete(out: &mut [u8]) -> Encoded
+    ensures { λ r. ⌜ Encodes K.backend K.parseComplete G.parseComplete (now (out .entry)) r (now (out .exit)) ⌝ }
+{
+    bare(MESSAGE_TYPE_BYTE_PARSE_COMPLETE, out)
+}
+
+pub fn bind_complete(out: &mut [u8]) -> Encoded
+    ensures { λ r. ⌜ Encodes K.backend K.bindComplete G.bindComplete (now (out .entry)) r (now (out .exit)) ⌝ }
+{
+    bare(MESSAGE_TYPE_BYTE_BIND_COMPLETE, out)
+}
+
+pub fn close_complete(out: &mut [u8]) -> Encoded
+    ensures { λ r. ⌜ Encodes K.backend K.closeComplete G.closeComplete (now (out .entry)) r (now (out .exit)) ⌝ }
+{
+    bare(MESSAGE_TYPE_BYTE_CLOSE_COMPLETE, out)
+}
+
+pub fn portal_suspended(out: &mut [u8]) -> Encoded
+    ensures { λ r. ⌜ Encodes K.backend K.portalSuspended G.portalSuspended (now (out .entry)) r (now (out .exit)) ⌝ }
+{
+    bare(MESSAGE_TYPE_BYTE_PORTAL_SUSPENDED, out)
 }

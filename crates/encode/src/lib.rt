@@ -1,4 +1,9 @@
 // An encoder for each kind, in the module of its Rust file. Everything is checked before the first byte is written.
+pub mod copy;
+pub mod data;
+pub mod extendedquery;
+pub mod response;
+
 ghost use Prim.Native.Nat.{_≤_};
 ghost use mathlib.Core.Option.{some};
 ghost use lib.ListN.{length};
@@ -10,8 +15,6 @@ use pen::put_head;
 use pen::verdict;
 use protocol::Encoded;
 use protocol::kinds::SMALL;
-
-pub mod extendedquery;
 
 fn write_bare(type_byte: u8, out: &mut [u8])
     requires { ⌜ 5 ≤ length (now out) ⌝ }

@@ -1,5 +1,4 @@
 -- `pen::bits8` meets its contract.
-use Prim.Native.Nat.{_-_}
 use mathlib.Core.Path.{sym}
 use native.Mathlib.Omega.{arith}
 use mir.Syntax.{w8}

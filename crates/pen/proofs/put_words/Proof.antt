@@ -1,11 +1,10 @@
 -- `pen::put_words` meets its contract.
-use Prim.Native.Nat.{_+_, _*_, _-_, _≤_}
+use Prim.Native.Nat.{ℕ, _+_, _*_, _-_, _≤_}
 use mathlib.Core.List.{List}
 use mathlib.Core.Path.{_≡_, ap, _∙_, sym}
 use native.Mathlib.Omega.{arith}
 use borrow.Author.Needs.{needs}
 use lib.ListN.{length, drop}
-use Prim.Native.Nat.{ℕ}
 use Rattle.protocol.specs.Encode.{items}
 use Rattle.protocol.specs.Fields.{itemsBytes}
 use Rattle.protocol.specs.Kinds.{oid}

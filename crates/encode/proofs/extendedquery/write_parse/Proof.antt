@@ -1,5 +1,4 @@
 -- `encode::extendedquery::write_parse` meets its contract.
-use mathlib.Core.List.{List}
 use native.Mathlib.Omega.{arith}
 use borrow.Author.Needs.{needs}
 use denote.Ref.{now}
