@@ -1,0 +1,2 @@
+pub mod Fieldless
+pub mod Measures

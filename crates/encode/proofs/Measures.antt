@@ -1,0 +1,37 @@
+-- For each kind: its limit, when its arguments can be written, and how many bytes their body then has.
+use Prim.Native.Nat.{ℕ, _+_, _*_}
+use mathlib.Core.Bool.{true, _&&_}
+use mathlib.Core.List.{List}
+use mathlib.Core.Option.{some}
+use mathlib.Core.Path.{refl}
+use native.Mathlib.Omega.{arith}
+use lib.Dec.{leb}
+use lib.IntN.{ℤ}
+use lib.ListN.{length, length-append}
+use Rattle.protocol.specs.Bytes.{noZero}
+use Rattle.protocol.specs.Each.{ableEach, bytesOfEach}
+use Rattle.protocol.specs.Encode.{items}
+use Rattle.protocol.specs.Kinds as K
+use Rattle.protocol.specs.WellFormed.{bodyBytes}
+use Rattle.pen.proofs.Encoding.{Measured, measured}
+use Rattle.pen.proofs.Lists.{and-true, able-text, able-i32, able-oids, length-text, length-i32, length-oids}
+use Rattle.encode.specs.Given as G
+
+pub parse : (name query oids : List ℕ)
+    → Measured K.frontend K.parse (G.parse name query oids) 1048576 (noZero name && (noZero query && leb (length oids) 32767)) (length name + length query + 4 * length oids + 4)
+unfolding K.frontend K.parse G.parse ableEach bodyBytes bytesOfEach
+parse name query oids =
+    measured K.frontend K.parse (name, (query, (items oids, tt))) refl refl
+    (simp (able-text, able-oids, and-true) refl)
+    (simp (length-append, length-text, length-oids) (omega arith))
+
+pub execute : (name : List ℕ) (rows : ℤ) → Measured K.frontend K.execute (G.execute name rows) 8192 (noZero name) (length name + 5)
+unfolding K.frontend K.execute G.execute ableEach bodyBytes bytesOfEach
+execute name rows =
+    measured K.frontend K.execute (name, (rows, tt)) refl refl
+    (simp (able-text, able-i32, and-true) refl)
+    (simp (length-append, length-text, length-i32) (omega arith))
+
+pub fieldless : (tag : ℕ) → Measured K.frontend (G.fieldless tag) (some tt) 8192 true 0
+unfolding K.frontend ableEach bodyBytes bytesOfEach
+fieldless tag = measured K.frontend (G.fieldless tag) tt refl refl refl refl

@@ -1,0 +1,13 @@
+// The general responses, as in response.rs.
+ghost use Rattle.protocol.specs.Encode.{Encodes};
+ghost use Rattle.protocol.specs.Kinds as K;
+ghost use Rattle.encode.specs.Given as G;
+use crate::bare;
+use protocol::Encoded;
+use protocol::response::MESSAGE_TYPE_BYTE_EMPTY_QUERY_RESPONSE;
+
+pub fn empty_query_response(out: &mut [u8]) -> Encoded
+    ensures { λ r. ⌜ Encodes K.backend K.emptyQueryResponse G.emptyQueryResponse (now (out .entry)) r (now (out .exit)) ⌝ }
+{
+    bare(MESSAGE_TYPE_BYTE_EMPTY_QUERY_RESPONSE, out)
+}

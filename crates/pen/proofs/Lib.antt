@@ -1,0 +1,4 @@
+pub mod Encoding
+pub mod Laws
+pub mod Lists
+pub mod Signs
