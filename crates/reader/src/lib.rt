@@ -64,8 +64,41 @@ pub fn to<'a>(r: FrameReader<'a>, at: usize) -> FrameReader<'a>
     FrameReader { frame: r.frame, at }
 }
 
+pub fn byte<'a>(r: FrameReader<'a>) -> Byte
+    ensures { λ s. ⌜ byteRead (r .entry .at) s ≡ readNumber 1 (now (r .entry .frame)) (r .entry .at) ⌝ }
+{
+    byte_at(r.frame, r.at)
+}
+
+pub fn half<'a>(r: FrameReader<'a>) -> Half
+    ensures { λ s. ⌜ halfRead (r .entry .at) s ≡ readNumber 2 (now (r .entry .frame)) (r .entry .at) ⌝ }
+{
+    half_at(r.frame, r.at)
+}
+
 pub fn word<'a>(r: FrameReader<'a>) -> Word
     ensures { λ s. ⌜ wordRead (r .entry .at) s ≡ readNumber 4 (now (r .entry .frame)) (r .entry .at) ⌝ }
 {
     word_at(r.frame, r.at)
+}
+
+pub fn string<'a>(r: FrameReader<'a>) -> Text
+    ensures { λ s. ⌜ textRead (r .entry .at) s ≡ readText (now (r .entry .frame)) (r .entry .at) ⌝ }
+{
+    string_at(r.frame, r.at)
+}
+
+pub fn value<'a>(r: FrameReader<'a>) -> Value
+    ensures { λ s. ⌜ valueRead (r .entry .at) s ≡ readValue (now (r .entry .frame)) (r .entry .at) ⌝ }
+{
+    value_at(r.frame, r.at)
+}
+
+// ---- for callers that have no reader
+
+// The value at a place of a frame, by a reader made for it: what calls this needs no walk by hand.
+pub fn value_from(frame: &[u8], at: usize) -> Value
+    ensures { λ r. ⌜ valueRead at r ≡ readValue (now (frame .entry)) at ⌝ }
+{
+    value(to(new(frame), at))
 }
