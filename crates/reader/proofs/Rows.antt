@@ -1,22 +1,34 @@
 -- When a message is no row, and when there is room for one.
 use Prim.Native.Nat.{ℕ, _≤_, _<_}
-use mathlib.Core.Bool.{Bool, true, false, _&&_, _||_, false≢true}
+use mathlib.Core.Bool.{Bool, true, false, cond, _&&_, _||_, false≢true}
 use mathlib.Core.List.{List, [], _∷_}
 use mathlib.Core.Logic.{_⊎_, inl, inr}
-use mathlib.Core.Option.{some, none}
+use mathlib.Core.Option.{Option, some, none}
 use mathlib.Core.Path.{_≡_, refl}
-use borrow.Author.Tests.{eq-eqb, le-leb, lt-leb}
+use native.Mathlib.Omega.{arith}
+use borrow.Author.Tests.{leb-true, eq-eqb, le-leb, lt-leb}
 use lib.Dec.{eqb, leb}
+use lib.IntN.{ℤ}
+use lib.ListN.{length, take}
 use types.Run.{OneOf}
 use denote.Enum.Declared.{tagOf}
+use Rattle.protocol.specs.declared.Body.the-variants as B
+use Rattle.protocol.specs.declared.Body.{Body}
+use Rattle.protocol.specs.declared.Decoded.the-variants as D
+use Rattle.protocol.specs.declared.Decoded.{Decoded}
 use Rattle.protocol.specs.declared.Message.the-variants as M
 use Rattle.protocol.specs.declared.Message.{Message}
 use Rattle.protocol.specs.Bytes.{isOneOf}
+use Rattle.protocol.proofs.Framed.{framed-is, framed-ends}
 use Rattle.protocol.proofs.Message as T
 use Rattle.protocol.specs.declared.List.{List as ListSlot}
+use Rattle.protocol.specs.declared.Rules.{Rules}
+use Rattle.protocol.specs.Decode.{Header, more, refuse, framed, headerOf, bodyOf, decodedBy, decodeBy, decodeOf}
 use Rattle.protocol.specs.Refusals.{noSuchElement, outputTooShort}
 use Rattle.reader.specs.declared.row.Row.the-variants as R
-use Rattle.reader.specs.Row.{rowIn, rowFits}
+use Rattle.reader.specs.declared.row.Row.{Row}
+use Rattle.reader.specs.Row.{ReadsRow, rowBy, rowFits, rowIn}
+use Rattle.reader.proofs.row.Row as RT
 
 or-true : (a : Bool) → a || true ≡ true
 or-true true = refl
@@ -86,3 +98,52 @@ module _ (l : ListSlot) (consumed starts lengths : ℕ) where
   pub enough : l .count ≤ starts → l .count ≤ lengths → R.Is l consumed ≡ rowFits (some l) consumed starts lengths
   unfolding rowFits
   enough h g = rw (le-leb _ _ h, le-leb _ _ g) refl
+
+-- ---- an answer that is a row
+
+-- the frame that was decoded is within the buffer
+decoded-by : (rules : Rules) (s : List ℕ) (h : Header) (m : Message) (n : ℕ) → headerOf rules s ≡ h → decodeBy rules s h ≡ D.Record m n → n ≤ length s
+unfolding decodeBy decodedBy
+decoded-by rules s more m n e d = let z : _≡_ {A = ℕ} 0 1 = cc in absurd (omega arith)
+decoded-by rules s (refuse number place) m n e d = let z : _≡_ {A = ℕ} 0 1 = cc in absurd (omega arith)
+decoded-by rules s (framed k start end) m n e d = rw (← consumed (bodyOf rules k (take end s) start) d) (framed-ends rules s k start end (framed-is rules s k start end e) .1)
+  where
+    consumed : (b : Body) → decodedBy b end ≡ D.Record m n → end ≡ n
+    consumed (B.Is x) q = cc
+    consumed (B.Refused number place) q = let z : _≡_ {A = ℕ} 0 1 = cc in absurd (omega arith)
+
+pub record IsRow (s : List ℕ) (starts lengths : ℕ) (l : ListSlot) (n : ℕ) : Type 0 where
+  pub within : n ≤ length s
+  pub forStarts : l .count ≤ starts
+  pub forLengths : l .count ≤ lengths
+
+fits-by : (o : Option ListSlot) (consumed starts lengths : ℕ) (l : ListSlot) (n : ℕ) → R.Is l n ≡ rowFits o consumed starts lengths → (consumed ≡ n) × (l .count ≤ starts) × (l .count ≤ lengths)
+unfolding rowFits
+fits-by none consumed starts lengths l n e = let z : _≡_ {A = ℕ} 0 1 = cc in absurd (omega arith)
+fits-by (some x) consumed starts lengths l n e = by (leb (x .count) starts) (leb (x .count) lengths) refl refl e
+  where
+    by : (a b : Bool) → leb (x .count) starts ≡ a → leb (x .count) lengths ≡ b → R.Is l n ≡ cond (a && b) (R.Is x consumed) (R.Refused outputTooShort 0) → (consumed ≡ n) × (l .count ≤ starts) × (l .count ≤ lengths)
+    by true true ea eb q = let same : l ≡ x = cc in (cc, rw same (leb-true _ _ ea), rw same (leb-true _ _ eb))
+    by true false ea eb q = let z : _≡_ {A = ℕ} 0 1 = cc in absurd (omega arith)
+    by false b ea eb q = let z : _≡_ {A = ℕ} 0 1 = cc in absurd (omega arith)
+
+row-by : (rules : Rules) (s : List ℕ) (d : Decoded) (starts lengths : ℕ) (l : ListSlot) (n : ℕ) → decodeOf rules s ≡ d → R.Is l n ≡ rowBy d starts lengths → IsRow s starts lengths l n
+unfolding rowBy decodeOf
+row-by rules s (D.Record m k) starts lengths l n e q =
+    let f = fits-by (rowIn m) k starts lengths l n q in
+    record { within = rw (← f .0) (decoded-by rules s (headerOf rules s) m k refl e); forStarts = f .1; forLengths = f .2 }
+row-by rules s D.NeedMore starts lengths l n e q = let z : _≡_ {A = ℕ} 0 1 = cc in absurd (omega arith)
+row-by rules s (D.Refused number place) starts lengths l n e q = let z : _≡_ {A = ℕ} 0 1 = cc in absurd (omega arith)
+
+pub is-row : (rules : Rules) (s : List ℕ) (starts lengths : ℕ) (l : ListSlot) (n : ℕ) → R.Is l n ≡ rowBy (decodeOf rules s) starts lengths → IsRow s starts lengths l n
+is-row rules s starts lengths l n e = row-by rules s (decodeOf rules s) starts lengths l n refl e
+
+-- where the answer is none, nothing is stored
+pub kept : (s starts : List ℕ) (lengths : List ℤ) (r : Row) → OneOf (1 ∷ 2 ∷ []) (tagOf RT.the-type r) → r ≡ rowBy (decodeOf (record { mode = 1 }) s) (length starts) (length lengths) → ReadsRow s starts lengths r starts lengths
+kept s starts lengths (R.Is l n) h e = absurd (no-key h)
+  where
+    no-key : OneOf (1 ∷ 2 ∷ []) 0 → ⊥
+    no-key (inl q) = omega arith
+    no-key (inr q) = omega arith
+kept s starts lengths R.NeedMore h e = record { answer = e; starts = refl; lengths = refl }
+kept s starts lengths (R.Refused number place) h e = record { answer = e; starts = refl; lengths = refl }

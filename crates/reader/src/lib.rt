@@ -3,6 +3,7 @@
 ghost use mathlib.Core.Path.{_≡_};
 ghost use Rattle.protocol.specs.Reading.{readNumber, readText, readValue};
 ghost use Rattle.codec.specs.Answers.{byteRead, halfRead, textRead, valueRead, wordRead};
+
 pub mod row;
 
 use codec::Byte;

@@ -5,6 +5,7 @@ ghost use lib.ListN.{length};
 ghost use Rattle.protocol.specs.Decode.{decodeOf};
 ghost use Rattle.protocol.specs.Reading.{readValue};
 ghost use Rattle.reader.specs.Row.{ReadsRow, entryOf, lengthWord, lengthsOf, over, placesFrom, rowBy, rowFits, rowIn, startsOf};
+use super::value_from;
 use codec::Value;
 use decode::decode;
 use protocol::Decoded;
@@ -12,7 +13,6 @@ use protocol::List;
 use protocol::Message;
 use protocol::refusal::NO_SUCH_ELEMENT;
 use protocol::refusal::OUTPUT_TOO_SHORT;
-use super::value_from;
 
 // What the row's values are and the bytes consumed, need-more, or a refusal's number and place.
 pub enum Row {

@@ -1,3 +1,4 @@
+-- `reader::row::fill` meets its contract: each turn stores one entry, and what is left to store stays the same.
 use Prim.Native.Nat.{ℕ, _-_, _≤_}
 use mathlib.Core.Path.{_≡_, sym, _∙_}
 use native.Mathlib.Omega.{arith}
@@ -12,9 +13,6 @@ use Rattle.reader.specs.Row.{Place}
 use Rattle.reader.proofs.Places.{length-fits, left, begun, turn, stopped, ended, laid}
 use Rattle.reader.proofs.row.fill.Statement.{statement}
 use Rattle.reader.proofs.row.fill.Tie as tie
-use Rattle.reader.proofs.row.fill.Reads as reads
-use Rattle.reader.proofs.row.fill.Lts as lts
-use Rattle.reader.proofs.row.entry_at.Reads as entry-at-reads
 
 abbrev start : Place → ℕ
 start x = x .start
@@ -32,68 +30,20 @@ Inv-loop frame at count starts₀ lengths₀ place₀ i₀ starts lengths place 
 abbrev μ-loop : tie.MeasureT-loop
 μ-loop frame at count starts₀ lengths₀ place₀ i₀ starts lengths place i = count - i
 
--- src/row.rt:81:5
 loop-holds : tie.Need-loop-holds Inv-loop μ-loop
 loop-holds c =
     let a = c .before .before .args in
     (search needs, search needs, search needs, begun start (a .frame .now) (a .starts .now) (a .count) (a .at), begun len (a .frame .now) (a .lengths .now) (a .count) (a .at))
 
--- src/row.rt:82:43
-entry-at-requires : tie.Need-entry-at-requires Inv-loop μ-loop
-entry-at-requires c κs = search needs
-
--- src/row.rt:82:23
-enum-known-start : tie.Need-enum-known-start Inv-loop μ-loop
-enum-known-start c = search needs
-
--- src/row.rt:83:13
-enum-told : tie.Need-enum-told Inv-loop μ-loop
-enum-told c = search needs
-
--- src/row.rt:83:13
-same-length : tie.Need-same-length Inv-loop μ-loop
-same-length c = search needs
-
--- src/row.rt:83:13
-same-length-2 : tie.Need-same-length-2 Inv-loop μ-loop
-same-length-2 c = search needs
-
--- src/row.rt:83:13
 returns : tie.Need-returns Inv-loop μ-loop
 returns c =
     let q = c .before .before .before .before .loop in
     let a = c .before .before .before .before .before .before .before .args in
-    let is = sym (c .enum-told .given .1) ∙ c .before .before .entry-at .ensures in
-    (
+    let is = sym (c .enum-told .given .1) ∙ c .before .before .entry-at .ensures in (
       stopped start (a .frame .now) (q .starts) _ (q .i) (a .count) (q .place) (omega arith) is (q .inv .3) ∙ laid start (a .frame .now) (a .starts .now) (a .count) (a .at) (omega arith),
       stopped len (a .frame .now) (q .lengths) _ (q .i) (a .count) (q .place) (omega arith) is (q .inv .4) ∙ laid len (a .frame .now) (a .lengths .now) (a .count) (a .at) (omega arith),
     )
 
--- src/row.rt:85:9
-mul-starts : tie.Need-mul-starts Inv-loop μ-loop
-mul-starts c = search needs
-
--- src/row.rt:85:9
-slice-write-starts : tie.Need-slice-write-starts Inv-loop μ-loop
-slice-write-starts c = search needs
-
--- src/row.rt:86:9
-mul-len : tie.Need-mul-len Inv-loop μ-loop
-mul-len c = search needs
-
--- src/row.rt:86:9
-slice-set-from-len : tie.Need-slice-set-from-len Inv-loop μ-loop
-slice-set-from-len c = search needs
-
--- src/row.rt:88:9
-add-i : tie.Need-add-i Inv-loop μ-loop
-add-i c = search needs
-
--- src/row.rt:81:5
-loop-less : tie.Need-loop-less Inv-loop μ-loop
-loop-less c = search needs
-
--- src/row.rt:81:5
 loop-again : tie.Need-loop-again Inv-loop μ-loop
 loop-again c =
     let w = c .before in
@@ -101,8 +51,7 @@ loop-again c =
     let a = w .before .before .before .before .before .before .before .args in
     let g = w .start .given in
     let is = sym (g .1) ∙ w .before .before .entry-at .ensures in
-    let fits = length-fits (readValue (a .frame .now) (q .place)) (g .0 .0) (g .0 .1 .1 .0) (g .0 .1 .0) is in
-    (
+    let fits = length-fits (readValue (a .frame .now) (q .place)) (g .0 .0) (g .0 .1 .1 .0) (g .0 .1 .0) is in (
       search needs,
       search needs,
       search needs,
@@ -110,20 +59,10 @@ loop-again c =
       rw (back w32 (g .0 .1 .0) fits) (turn len (a .frame .now) (q .lengths) _ (q .i) (a .count) (q .place) (g .0 .0) (g .0 .1 .1 .0) (g .0 .1 .0) (omega arith) is (q .inv .4)),
     )
 
--- src/row.rt:75:1
-same-length-3 : tie.Need-same-length-3 Inv-loop μ-loop
-same-length-3 c = search needs
-
--- src/row.rt:75:1
-same-length-4 : tie.Need-same-length-4 Inv-loop μ-loop
-same-length-4 c = search needs
-
--- src/row.rt:75:1
 returns-2 : tie.Need-returns-2 Inv-loop μ-loop
 returns-2 c =
     let q = c .before .loop in
-    let a = c .before .before .before .before .args in
-    (
+    let a = c .before .before .before .before .args in (
       ended start (a .frame .now) (q .starts) _ (q .i) (a .count) (q .place) (omega arith) (q .inv .3) ∙ laid start (a .frame .now) (a .starts .now) (a .count) (a .at) (omega arith),
       ended len (a .frame .now) (q .lengths) _ (q .i) (a .count) (q .place) (omega arith) (q .inv .4) ∙ laid len (a .frame .now) (a .lengths .now) (a .count) (a .at) (omega arith),
     )
@@ -135,19 +74,19 @@ fill-spec =
     Inv-loop
     μ-loop
     loop-holds
-    entry-at-requires
-    enum-known-start
-    enum-told
-    same-length
-    same-length-2
+    (λ c κs. search needs)
+    (λ c. search needs)
+    (λ c. search needs)
+    (λ c. search needs)
+    (λ c. search needs)
     returns
-    mul-starts
-    slice-write-starts
-    mul-len
-    slice-set-from-len
-    add-i
-    loop-less
+    (λ c. search needs)
+    (λ c. search needs)
+    (λ c. search needs)
+    (λ c. search needs)
+    (λ c. search needs)
+    (λ c. search needs)
     loop-again
-    same-length-3
-    same-length-4
+    (λ c. search needs)
+    (λ c. search needs)
     returns-2)
