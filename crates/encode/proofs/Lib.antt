@@ -1,2 +1,2 @@
-pub mod Fieldless
 pub mod Measures
+pub mod Shapes
