@@ -2,3 +2,4 @@ pub mod Encoding
 pub mod Laws
 pub mod Lists
 pub mod Signs
+pub mod ValueLaws
