@@ -1,8 +1,8 @@
 -- Values, one after the other: when lengths and bytes are some, and what is written of them.
 use Prim.Native.Nat.{ℕ, zero, suc, _+_, _*_, _-_, _≤_, _<_}
-use mathlib.Core.Bool.{Bool, true, false, cond, _&&_}
+use mathlib.Core.Bool.{Bool, true, false, _&&_}
 use mathlib.Core.List.{List, [], _∷_, _++_, append-nil, append-assoc}
-use mathlib.Core.Option.{Option, some, none}
+use mathlib.Core.Option.{some, none}
 use mathlib.Core.Path.{_≡_, refl, ap, _∙_, sym}
 use native.Mathlib.Omega.{arith}
 use borrow.Author.Tests.{ltb-true, ltb-false, leb-true, le-leb, eq-eqb, ne-eqb, eqb-true}
@@ -14,37 +14,17 @@ use lib.Signed.{ltZ, mag}
 use mir.Syntax.{w32}
 use mir.Val.{SFits, toZ, ofZ}
 use mir.ValLaws.{toZ-ofZ}
+use Rattle.protocol.specs.declared.Rules.{Rules}
 use Rattle.protocol.specs.Bytes.{be, bitsOf}
-use Rattle.protocol.specs.Each.{bytesOfEach}
-use Rattle.protocol.specs.Encode.{oneBefore, valuesGiven}
-use Rattle.protocol.specs.Fields.{ItemContent, bytes, atomBytes, valueBytes, itemBytes, itemsBytes}
+use Rattle.protocol.specs.Each.{ableEach, bytesOfEach}
+use Rattle.protocol.specs.Encode.{valuesGiven}
+use Rattle.protocol.specs.Fields.{ItemContent, able, bytes, atomAble, atomBytes, valueBytes, itemAble, itemBytes, itemsAble, itemsBytes}
 use Rattle.protocol.specs.Kinds.{nullable, values}
 use Rattle.pen.specs.Given.{isSome, sizeOf, WroteGiven}
 use Rattle.pen.specs.Writing.{write, Wrote}
+use Rattle.pen.proofs.GivenLaws.{first, some-first, and-left}
 use Rattle.pen.proofs.Laws.{drop-more, drop-end, _then_}
-use Rattle.pen.proofs.Lists.{and-right}
-
-pub and-left : (a b : Bool) → a && b ≡ true → a ≡ true
-and-left true b e = refl
-and-left false b e = e
-
--- ---- a first item, behind a test
-
-pub record First {A : Type 0} (x : A) (t : Bool) (o : Option (List A)) (xs : List A) : Type 0 where
-  pub passed : t ≡ true
-  pub rest : List A
-  pub was : o ≡ some rest
-  pub is : xs ≡ x ∷ rest
-
-pub first : {A : Type 0} (x : A) (t : Bool) (o : Option (List A)) (xs : List A) → cond t (oneBefore x o) none ≡ some xs → First x t o xs
-first x true (some rest) xs e = let q : x ∷ rest ≡ xs = cc in record { passed = refl; rest = rest; was = refl; is = sym q }
-first x true none xs e = let z : _≡_ {A = ℕ} 0 1 = cc in absurd (omega arith)
-first x false o xs e = let z : _≡_ {A = ℕ} 0 1 = cc in absurd (omega arith)
-
-pub some-first : {A : Type 0} (x : A) (t : Bool) (o : Option (List A)) → isSome (cond t (oneBefore x o) none) ≡ t && isSome o
-some-first x true (some rest) = refl
-some-first x true none = refl
-some-first x false o = refl
+use Rattle.pen.proofs.Lists.{and-true, and-right}
 
 -- ---- the size of a value
 
@@ -177,3 +157,20 @@ values-field zs bs w e at = record {
       rw (v .many, v .written) (w then record { bytes = e; size = v .size; place = at });
   place = omega (arith, w .place);
 }
+
+-- ---- the field
+
+able-nullables : (rules : Rules) (vs : List (ItemContent nullable)) → itemsAble rules nullable vs ≡ true
+unfolding itemsAble itemAble ableEach atomAble
+able-nullables rules [] = refl
+able-nullables rules (v ∷ vs) = able-nullables rules vs
+
+pub able-values : (rules : Rules) (zs : List ℤ) (bs : List ℕ) (vs : List (ItemContent nullable)) → valuesGiven zs bs ≡ some vs
+    → able rules values vs ≡ leb (length zs) 32767
+unfolding able
+able-values rules zs bs vs e = rw (values-are zs bs vs e .many, able-nullables rules vs) (and-true (leb (length zs) 32767))
+
+pub length-values : (zs : List ℤ) (bs : List ℕ) (vs : List (ItemContent nullable)) → valuesGiven zs bs ≡ some vs
+    → length (bytes values vs) ≡ 2 + (4 * length zs + length bs)
+unfolding bytes be
+length-values zs bs vs e = let v = values-are zs bs vs e in rw (v .written) (omega (arith, v .size))
