@@ -10,11 +10,14 @@ use lib.IntN.{ℤ}
 use lib.ListN.{length, length-append}
 use Rattle.protocol.specs.Bytes.{noZero, isOneOf}
 use Rattle.protocol.specs.Each.{ableEach, bytesOfEach}
-use Rattle.protocol.specs.Encode.{items}
+use Rattle.protocol.specs.Encode.{items, valuesGiven}
 use Rattle.protocol.specs.Kinds as K
 use Rattle.protocol.specs.WellFormed.{bodyBytes}
+use Rattle.pen.specs.Given.{isSome}
 use Rattle.pen.proofs.Encoding.{Measured, measured}
+use Rattle.pen.proofs.GivenLaws.{measured-given}
 use Rattle.pen.proofs.Lists.{and-true, able-text, able-signed, able-byte, able-oids, length-text, length-signed, length-byte, length-oids}
+use Rattle.pen.proofs.ValueLaws.{able-values, length-values}
 use Rattle.encode.specs.Given as G
 
 pub parse : (name query oids : List ℕ)
@@ -38,6 +41,14 @@ execute name rows =
     measured K.frontend K.execute (name, (rows, tt)) refl refl
     (simp (able-text, able-signed, and-true) refl)
     (simp (length-append, length-text, length-signed) (omega arith))
+
+pub dataRow : (lengths : List ℤ) (joined : List ℕ)
+    → Measured K.backend K.dataRow (G.dataRow lengths joined) 1048576 (isSome (valuesGiven lengths joined) && leb (length lengths) 32767) (length joined + 4 * length lengths + 2)
+unfolding K.backend K.dataRow G.dataRow ableEach bodyBytes bytesOfEach
+dataRow lengths joined =
+    measured-given K.dataRow (λ vs. (vs, tt)) K.backend (valuesGiven lengths joined) refl refl
+    (λ vs is. rw (able-values _ lengths joined vs is) (and-true (leb (length lengths) 32767)))
+    (λ vs is. simp length-append (omega (arith, length-values lengths joined vs is)))
 
 pub fieldless : (tag : ℕ) → Measured K.frontend (G.fieldless tag) (some tt) 8192 true 0
 unfolding K.frontend ableEach bodyBytes bytesOfEach
