@@ -99,3 +99,17 @@ pub fn step(c: Pen, f: FieldDescription, run: &[u8], out: &mut [u8]) -> Pen
     }
     next
 }
+
+// A pass over all fields. Walked by hand: a lent slice of structs is read.
+pub fn each(fields: &[FieldDescription], run: &[u8], out: &mut [u8], c: Pen) -> Pen
+    ensures { λ r. ⌜ (r ≡ P.allPen (now (fields .entry)) (now (run .entry)) c)
+        × (now (out .exit) ≡ P.allOut (now (fields .entry)) (now (run .entry)) (now (out .entry)) c) ⌝ }
+{
+    let mut i: usize = 0;
+    let mut p = c;
+    while i < fields.len() {
+        p = step(p, fields[i], run, out);
+        i = i + 1;
+    }
+    p
+}
