@@ -10,9 +10,9 @@ use Rattle.protocol.specs.declared.data.FieldDescription.{FieldDescription}
 use Rattle.protocol.specs.Bytes.{be, noZero}
 use Rattle.protocol.specs.Encode.{rowFieldGiven}
 use Rattle.protocol.specs.Fields.{itemBytes}
-use Rattle.protocol.specs.Kinds.{rowField, typed}
+use Rattle.protocol.specs.Kinds.{large, rowDescription, rowField, typed}
 use Rattle.protocol.specs.WellFormed.{header}
-use Rattle.pen.specs.Writing.{write}
+use Rattle.pen.specs.Writing.{verdictOf, write}
 use Rattle.rows.specs.declared.Pen.{Pen}
 
 -- a field's name stands in the run and has no zero byte
@@ -42,3 +42,23 @@ allPen (f ∷ fs) run c = allPen fs run (stepPen c f run)
 unfoldable pub allOut : List FieldDescription → List ℕ → List ℕ → Pen → List ℕ
 allOut [] run out c = out
 allOut (f ∷ fs) run out c = allOut fs run (stepOut c f run out) (stepPen c f run)
+
+-- ---- the whole frame
+
+-- the pen of the pass that measures
+abbrev pub blank : Pen
+blank = record { at = 0; ok = true; writing = false }
+
+-- the answer to what was measured of so many fields; six bytes of the length come before the fields
+abbrev pub answered : Pen → ℕ → ℕ → Encoded
+answered c count room = verdictOf (leb count 32767 && c .ok) large (min (c .at + 6) 18446744073709551615) 1 room
+
+-- the head and the count, where there is room for the frame
+unfoldable pub begun : Encoded → ℕ → List ℕ → List ℕ
+begun (N.Done n) count out = write (write out 0 (header typed (rowDescription .tag) (n - 5))) 5 (be 2 count)
+begun (N.Refused number place) count out = out
+
+-- the pen of the pass that writes
+unfoldable pub writer : Encoded → Pen
+writer (N.Done n) = record { at = 7; ok = true; writing = true }
+writer (N.Refused number place) = record { at = 7; ok = true; writing = false }

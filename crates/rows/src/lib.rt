@@ -13,9 +13,14 @@ use pen::bits32;
 use pen::no_zero;
 use pen::plus;
 use pen::put_half;
+use pen::put_head;
 use pen::put_text;
 use pen::put_word;
+use pen::verdict;
+use protocol::Encoded;
 use protocol::data::FieldDescription;
+use protocol::data::MESSAGE_TYPE_BYTE_ROW_DESCRITION;
+use protocol::kinds::LARGE;
 
 // How far a pass is: the next byte's place, whether every name so far can be written, and whether the pass writes.
 pub struct Pen {
@@ -112,4 +117,37 @@ pub fn each(fields: &[FieldDescription], run: &[u8], out: &mut [u8], c: Pen) -> 
         i = i + 1;
     }
     p
+}
+
+// The answer to what was measured; where it is a number of bytes, the frame's head and the count are written.
+pub fn begin(measured: Pen, count: usize, out: &mut [u8]) -> Encoded
+    ensures { λ r. ⌜ (r ≡ P.answered measured count (length (now (out .entry)))) × (now (out .exit) ≡ P.begun r count (now (out .entry))) ⌝ }
+{
+    let able = (count <= 32767) & measured.ok;
+    let size = plus(measured.at, 6);
+    let r = verdict(able, LARGE, size, out.len());
+    let Encoded::Done(n) = r else {
+        return r;
+    };
+    let at = put_head(out, MESSAGE_TYPE_BYTE_ROW_DESCRITION, n);
+    put_half(out, at, count as u16);
+    r
+}
+
+// The pen of the pass that writes: it writes where the answer is a number of bytes.
+pub fn writer(r: Encoded) -> Pen
+    ensures { λ p. ⌜ p ≡ P.writer r ⌝ }
+{
+    match r {
+        Encoded::Done(n) => Pen {
+            at: 7,
+            ok: true,
+            writing: true,
+        },
+        Encoded::Refused(number, place) => Pen {
+            at: 7,
+            ok: true,
+            writing: false,
+        },
+    }
 }
