@@ -121,7 +121,7 @@ pub record Room (can : Bool) (limit size room n : ℕ) : Type 0 where
   pub small : n ≤ limit
   pub fits : n ≤ room
 
-room-by : (limit size whole room n : ℕ) (able a b : Bool) → ltb limit size ≡ a → ltb room whole ≡ b
+pub room-by : (limit size whole room n : ℕ) (able a b : Bool) → ltb limit size ≡ a → ltb room whole ≡ b
     → cond able (cond a (N.Refused lengthAboveLimit 0) (cond b (N.Refused outputTooShort 0) (N.Done whole))) (N.Refused notRepresentable 0) ≡ N.Done n
     → (able ≡ true) × (n ≡ whole) × (size ≤ limit) × (whole ≤ room)
 room-by limit size whole room n true false false ea eb e = (refl, cc, ltb-false _ _ ea, ltb-false _ _ eb)
