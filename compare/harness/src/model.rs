@@ -104,10 +104,17 @@ pub enum Answer {
 /// A fault: the refusal's number and place.
 type Read<T> = Result<T, (u8, usize)>;
 
-/// A frame, and how far it is read.
+/// A frame, how far it is read, and what is being read, for whoever asks what was cut.
 struct Frame<'a> {
     bytes: &'a [u8],
     at: usize,
+    what: &'static str,
+}
+
+impl<'a> Frame<'a> {
+    fn new(bytes: &'a [u8], at: usize) -> Frame<'a> {
+        Frame { bytes, at, what: "" }
+    }
 }
 
 impl Frame<'_> {
@@ -117,6 +124,7 @@ impl Frame<'_> {
 
     /// A big-endian signed number of `width` bytes.
     fn number(&mut self, width: usize) -> Read<i64> {
+        self.what = "number";
         if self.left() < width {
             return Err((6, self.at));
         }
@@ -134,6 +142,7 @@ impl Frame<'_> {
 
     fn string(&mut self) -> Read<Slot> {
         let from = self.at;
+        self.what = "string";
         match self.bytes[from..].iter().position(|b| *b == 0) {
             Some(n) => {
                 self.at = from + n + 1;
@@ -270,7 +279,7 @@ fn signed(bytes: &[u8]) -> i64 {
 }
 
 /// A frame's kind, where its body begins and where it ends; or the answer where there is none.
-fn header(mode: u8, buf: &[u8]) -> Result<(&'static Kind, usize, usize), Answer> {
+fn header(mode: u8, buf: &[u8], limited: bool) -> Result<(&'static Kind, usize, usize), Answer> {
     let refuse = |n, place| Err(Answer::Refused(n, place));
     match mode {
         0 | 1 => {
@@ -285,7 +294,7 @@ fn header(mode: u8, buf: &[u8]) -> Result<(&'static Kind, usize, usize), Answer>
             if length < k.smallest {
                 return refuse(3, 1);
             }
-            if length > k.limit {
+            if limited && length > k.limit {
                 return refuse(4, 1);
             }
             let end = 1 + length as usize;
@@ -306,7 +315,7 @@ fn header(mode: u8, buf: &[u8]) -> Result<(&'static Kind, usize, usize), Answer>
             if length < k.smallest {
                 return refuse(3, 0);
             }
-            if length > k.limit {
+            if limited && length > k.limit {
                 return refuse(4, 0);
             }
             if buf.len() < length as usize {
@@ -328,11 +337,28 @@ fn header(mode: u8, buf: &[u8]) -> Result<(&'static Kind, usize, usize), Answer>
 }
 
 pub fn decode(mode: u8, buf: &[u8]) -> Answer {
-    let (k, start, end) = match header(mode, buf) {
+    decoded(mode, buf, true)
+}
+
+/// The same if there were no limits: what is compared where the Rust's limit is the larger one.
+pub fn decode_unlimited(mode: u8, buf: &[u8]) -> Answer {
+    decoded(mode, buf, false)
+}
+
+/// What the first fault of a frame's body is in: a "string", or a "number" (a value's length and a value's bytes too).
+pub fn fault(mode: u8, buf: &[u8]) -> &'static str {
+    let Ok((k, start, end)) = header(mode, buf, false) else { return "" };
+    let mut frame = Frame::new(&buf[..end], start);
+    let _ = frame.body(k);
+    frame.what
+}
+
+fn decoded(mode: u8, buf: &[u8], limited: bool) -> Answer {
+    let (k, start, end) = match header(mode, buf, limited) {
         Ok(h) => h,
         Err(answer) => return answer,
     };
-    let mut frame = Frame { bytes: &buf[..end], at: start };
+    let mut frame = Frame::new(&buf[..end], start);
     match frame.body(k) {
         // of modes 3 and 4: whether it accepts
         Ok(_) if mode == 3 || mode == 4 => Answer::Record(k, end, vec![Slot::Num((buf[0] == b'N') as i64)]),
@@ -378,7 +404,7 @@ pub fn element(mode: u8, buf: &[u8], list: usize, number: usize) -> Element {
     if number >= *n {
         return Element::Refused(11, 0);
     }
-    let mut frame = Frame { bytes: &buf[..end], at: *start };
+    let mut frame = Frame::new(&buf[..end], *start);
     for _ in 0..number {
         frame.element(*part).unwrap();
     }
@@ -406,7 +432,7 @@ pub fn content(answer: &Answer, buf: &[u8]) -> Option<Content> {
             (Some(Rest), Slot::Span(s, n)) => Field::Bytes(buf[*s..s + n].to_vec()),
             (_, Slot::Span(s, n)) => Field::Text(buf[*s..s + n].to_vec()),
             (Some(p), Slot::List(start, n)) => {
-                let mut frame = Frame { bytes: &buf[..*end], at: *start };
+                let mut frame = Frame::new(&buf[..*end], *start);
                 let elements: Vec<Element> = (0..*n).map(|_| frame.element(p).unwrap()).collect();
                 list_content(p, &elements, buf)
             }
@@ -525,4 +551,206 @@ pub fn element_row(e: &Element) -> Row {
         }
     }
     out
+}
+
+// ---- encoding
+
+/// A field of a RowDescription to be written: its name is a part of the run.
+#[derive(Clone, PartialEq, Eq, Debug)]
+pub struct RowGiven {
+    pub start: usize,
+    pub len: usize,
+    pub table_id: i32,
+    pub column_id: i16,
+    pub type_id: u32,
+    pub type_size: i16,
+    pub type_modifier: i32,
+    pub format_code: i16,
+}
+
+/// What an encoder is given; each kind uses what it has.
+#[derive(Clone, PartialEq, Eq, Debug, Default)]
+pub struct Given {
+    pub kind: u8,
+    /// Strings, or CopyData's bytes, from left to right.
+    pub texts: Vec<Vec<u8>>,
+    /// Numbers, a target, a status, or an answer (0 accept, 1 refuse), from left to right.
+    pub numbers: Vec<i64>,
+    pub oids: Vec<u32>,
+    pub formats: Vec<i16>,
+    pub results: Vec<i16>,
+    /// Values: their lengths, -1 for NULL.
+    pub lengths: Vec<i32>,
+    /// An error's fields: their codes and their strings' lengths.
+    pub codes: Vec<u8>,
+    pub sizes: Vec<u32>,
+    /// The joined bytes of values or strings, or the run that names stand in.
+    pub joined: Vec<u8>,
+    pub rows: Vec<RowGiven>,
+}
+
+/// The frame, or the number of the refusal; every refusal's place is 0.
+pub fn encode(g: &Given, room: usize) -> Result<Vec<u8>, u8> {
+    let kind = named(g.kind);
+    let body = written(g, kind).ok_or(10u8)?;
+    let frame = match kind.mode {
+        2 => {
+            let mut f = ((body.len() + 8) as u32).to_be_bytes().to_vec();
+            f.extend_from_slice(&(CANCEL as u32).to_be_bytes());
+            f.extend_from_slice(&body);
+            f
+        }
+        3 => vec![if g.numbers[0] == 0 { b'S' } else { b'N' }],
+        4 => vec![if g.numbers[0] == 0 { b'G' } else { b'N' }],
+        _ => {
+            let mut f = vec![kind.tag];
+            f.extend_from_slice(&((body.len() + 4) as u32).to_be_bytes());
+            f.extend_from_slice(&body);
+            f
+        }
+    };
+    let length = frame.len() as i64 - (kind.mode < 2) as i64;
+    if length > kind.limit {
+        return Err(4);
+    }
+    if frame.len() > room {
+        return Err(9);
+    }
+    Ok(frame)
+}
+
+/// The body, where it can be written.
+fn written(g: &Given, kind: &Kind) -> Option<Vec<u8>> {
+    let mut out: Vec<u8> = Vec::new();
+    let mut texts = g.texts.iter();
+    let mut numbers = g.numbers.iter();
+    let mut formats = [&g.formats, &g.results].into_iter();
+    let count = |out: &mut Vec<u8>, n: usize| {
+        if n > 32_767 {
+            return None;
+        }
+        out.extend_from_slice(&(n as u16).to_be_bytes());
+        Some(())
+    };
+    let string = |out: &mut Vec<u8>, s: &[u8]| {
+        if s.contains(&0) {
+            return None;
+        }
+        out.extend_from_slice(s);
+        out.push(0);
+        Some(())
+    };
+    for part in kind.body {
+        match part {
+            Str => string(&mut out, texts.next().unwrap())?,
+            Rest => out.extend_from_slice(texts.next().unwrap()),
+            I8 => out.extend_from_slice(&(*numbers.next().unwrap() as i8).to_be_bytes()),
+            I32 => out.extend_from_slice(&(*numbers.next().unwrap() as i32).to_be_bytes()),
+            Target | Status => {
+                let b = *numbers.next().unwrap() as u8;
+                let allowed: &[u8] = if *part == Target { b"SP" } else { b"ITE" };
+                if !allowed.contains(&b) {
+                    return None;
+                }
+                out.push(b);
+            }
+            Oids => {
+                count(&mut out, g.oids.len())?;
+                g.oids.iter().for_each(|n| out.extend_from_slice(&n.to_be_bytes()));
+            }
+            Formats => {
+                let list = formats.next().unwrap();
+                count(&mut out, list.len())?;
+                list.iter().for_each(|n| out.extend_from_slice(&n.to_be_bytes()));
+            }
+            Values => {
+                let total: u64 = g.lengths.iter().map(|n| (*n).max(0) as u64).sum();
+                if g.lengths.iter().any(|n| *n < -1) || total != g.joined.len() as u64 {
+                    return None;
+                }
+                count(&mut out, g.lengths.len())?;
+                let mut at = 0;
+                for n in &g.lengths {
+                    out.extend_from_slice(&n.to_be_bytes());
+                    let n = (*n).max(0) as usize;
+                    out.extend_from_slice(&g.joined[at..at + n]);
+                    at += n;
+                }
+            }
+            Rows => {
+                count(&mut out, g.rows.len())?;
+                for r in &g.rows {
+                    let name = g.joined.get(r.start..r.start.checked_add(r.len)?)?;
+                    string(&mut out, name)?;
+                    out.extend_from_slice(&r.table_id.to_be_bytes());
+                    out.extend_from_slice(&r.column_id.to_be_bytes());
+                    out.extend_from_slice(&r.type_id.to_be_bytes());
+                    out.extend_from_slice(&r.type_size.to_be_bytes());
+                    out.extend_from_slice(&r.type_modifier.to_be_bytes());
+                    out.extend_from_slice(&r.format_code.to_be_bytes());
+                }
+            }
+            Errors => {
+                let total: u64 = g.sizes.iter().map(|n| *n as u64).sum();
+                if g.codes.len() != g.sizes.len() || total != g.joined.len() as u64 || g.codes.contains(&0) {
+                    return None;
+                }
+                let mut at = 0;
+                for (c, n) in g.codes.iter().zip(&g.sizes) {
+                    out.push(*c);
+                    string(&mut out, &g.joined[at..at + *n as usize])?;
+                    at += *n as usize;
+                }
+                out.push(0);
+            }
+        }
+    }
+    Some(out)
+}
+
+/// The content that an encoder is given, where it is one: what the frame means.
+pub fn given(c: &Content) -> Given {
+    let mut g = Given { kind: c.kind, ..Given::default() };
+    let mut formats = 0;
+    for f in &c.fields {
+        match f {
+            Field::Num(n) => g.numbers.push(*n),
+            Field::Text(t) | Field::Bytes(t) => g.texts.push(t.clone()),
+            Field::Oids(o) => g.oids = o.clone(),
+            Field::Formats(f) => {
+                if formats == 0 { g.formats = f.clone() } else { g.results = f.clone() }
+                formats += 1;
+            }
+            Field::Values(vs) => {
+                for v in vs {
+                    g.lengths.push(v.as_ref().map(|b| b.len() as i32).unwrap_or(-1));
+                    g.joined.extend_from_slice(v.as_deref().unwrap_or(&[]));
+                }
+            }
+            Field::Rows(rows) => {
+                for r in rows {
+                    g.rows.push(RowGiven {
+                        start: g.joined.len(),
+                        len: r.name.len(),
+                        table_id: r.table_id,
+                        column_id: r.column_id,
+                        type_id: r.type_id,
+                        type_size: r.type_size,
+                        type_modifier: r.type_modifier,
+                        format_code: r.format_code,
+                    });
+                    g.joined.extend_from_slice(&r.name);
+                }
+            }
+            Field::Errors(errors) => {
+                for (code, s) in errors {
+                    g.codes.push(*code);
+                    g.sizes.push(s.len() as u32);
+                    g.joined.extend_from_slice(s);
+                }
+            }
+            Field::Unread(_, _) => unreachable!(),
+        }
+    }
+    g
 }
