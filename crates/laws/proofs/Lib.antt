@@ -19,3 +19,4 @@ pub mod Table
 pub mod Headers
 pub mod MoreBytes
 pub mod NeedMore
+pub mod InOrder
