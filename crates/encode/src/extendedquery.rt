@@ -13,6 +13,7 @@ use pen::bits32;
 use pen::no_zero;
 use pen::plus;
 use pen::plus4;
+use pen::put_byte;
 use pen::put_head;
 use pen::put_oids;
 use pen::put_text;
@@ -20,13 +21,16 @@ use pen::put_word;
 use pen::verdict;
 use protocol::Encoded;
 use protocol::extendedquery::MESSAGE_TYPE_BYTE_BIND_COMPLETE;
+use protocol::extendedquery::MESSAGE_TYPE_BYTE_CLOSE;
 use protocol::extendedquery::MESSAGE_TYPE_BYTE_CLOSE_COMPLETE;
+use protocol::extendedquery::MESSAGE_TYPE_BYTE_DESCRIBE;
 use protocol::extendedquery::MESSAGE_TYPE_BYTE_EXECUTE;
 use protocol::extendedquery::MESSAGE_TYPE_BYTE_FLUSH;
 use protocol::extendedquery::MESSAGE_TYPE_BYTE_PARSE;
 use protocol::extendedquery::MESSAGE_TYPE_BYTE_PARSE_COMPLETE;
 use protocol::extendedquery::MESSAGE_TYPE_BYTE_PORTAL_SUSPENDED;
 use protocol::extendedquery::MESSAGE_TYPE_BYTE_SYNC;
+use protocol::extendedquery::is_target;
 use protocol::kinds::LARGE;
 use protocol::kinds::SMALL;
 
@@ -51,6 +55,41 @@ pub fn parse(name: &[u8], query: &[u8], type_oids: &[u32], out: &mut [u8]) -> En
     };
     write_parse(name, query, type_oids, n, out);
     r
+}
+
+fn write_aim(type_byte: u8, target_type: u8, name: &[u8], n: usize, out: &mut [u8])
+    requires { ⌜ (n ≡ length (now name) + 7) × (n ≤ length (now out)) × (n ≤ 8193) ⌝ }
+    ensures { λ r. ⌜ Framed K.typed (G.aimed «type_byte») (G.aimOf «type_byte» «target_type» (now (name .entry))) (now (out .entry)) (now (out .exit)) ⌝ }
+{
+    let at = put_head(out, type_byte, n);
+    let at = put_byte(out, at, target_type);
+    put_text(out, at, name);
+}
+
+// What Close and Describe have in common: a target and a name.
+fn aim(type_byte: u8, target_type: u8, name: &[u8], out: &mut [u8]) -> Encoded
+    ensures { λ r. ⌜ Encodes K.frontend (G.aimed «type_byte») (G.aimOf «type_byte» «target_type» (now (name .entry))) (now (out .entry)) r (now (out .exit)) ⌝ }
+{
+    let able = is_target(target_type) & no_zero(name);
+    let size = plus(name.len(), 6);
+    let r = verdict(able, SMALL, size, out.len());
+    let Encoded::Done(n) = r else {
+        return r;
+    };
+    write_aim(type_byte, target_type, name, n, out);
+    r
+}
+
+pub fn close(target_type: u8, name: &[u8], out: &mut [u8]) -> Encoded
+    ensures { λ r. ⌜ Encodes K.frontend K.close (G.close «target_type» (now (name .entry))) (now (out .entry)) r (now (out .exit)) ⌝ }
+{
+    aim(MESSAGE_TYPE_BYTE_CLOSE, target_type, name, out)
+}
+
+pub fn describe(target_type: u8, name: &[u8], out: &mut [u8]) -> Encoded
+    ensures { λ r. ⌜ Encodes K.frontend K.describe (G.describe «target_type» (now (name .entry))) (now (out .entry)) r (now (out .exit)) ⌝ }
+{
+    aim(MESSAGE_TYPE_BYTE_DESCRIBE, target_type, name, out)
 }
 
 // rows is the bits of the number of rows.
