@@ -1,19 +1,20 @@
 -- The measures of the kinds with a list that may be no content.
-use Prim.Native.Nat.{ℕ, _+_, _*_}
+use Prim.Native.Nat.{ℕ, _+_, _*_, _<_}
 use mathlib.Core.Bool.{_&&_}
 use mathlib.Core.List.{List}
 use mathlib.Core.Path.{refl}
 use native.Mathlib.Omega.{arith}
 use lib.Dec.{leb}
 use lib.IntN.{ℤ}
-use lib.ListN.{length, length-append}
+use lib.ListN.{length, getD, length-append}
 use Rattle.protocol.specs.Bytes.{noZero}
 use Rattle.protocol.specs.Each.{ableEach, bytesOfEach}
-use Rattle.protocol.specs.Encode.{items, valuesGiven}
+use Rattle.protocol.specs.Encode.{items, valuesGiven, errorFieldsGiven}
 use Rattle.protocol.specs.Kinds as K
 use Rattle.protocol.specs.WellFormed.{bodyBytes}
 use Rattle.pen.specs.Given.{isSome}
 use Rattle.pen.proofs.Encoding.{Measured}
+use Rattle.pen.proofs.ErrorLaws.{able-errors, length-errors}
 use Rattle.pen.proofs.GivenLaws.{measured-given}
 use Rattle.pen.proofs.Lists.{and-true, able-text, able-formats, length-text, length-formats}
 use Rattle.pen.proofs.ValueLaws.{able-values, length-values}
@@ -36,3 +37,12 @@ dataRow lengths joined =
     measured-given K.dataRow (λ vs. (vs, tt)) K.backend (valuesGiven lengths joined) refl refl
     (λ vs is. rw (able-values _ lengths joined vs is) (and-true (leb (length lengths) 32767)))
     (λ vs is. simp length-append (omega (arith, length-values lengths joined vs is)))
+
+-- codes are bytes
+pub reported : (tag : ℕ) (codes lengths joined : List ℕ) → ((i : ℕ) → getD codes i 0 < 256)
+    → Measured K.backend (G.reported tag) (G.reportOf tag codes lengths joined) 1048576 (isSome (errorFieldsGiven codes lengths joined) && (noZero joined && noZero codes)) (2 * length codes + length joined + 1)
+unfolding K.backend ableEach bodyBytes bytesOfEach
+reported tag codes lengths joined small =
+    measured-given (G.reported tag) (λ fs. (fs, tt)) K.backend (errorFieldsGiven codes lengths joined) refl refl
+    (λ fs is. rw (able-errors codes lengths joined fs small is _) (and-true (noZero joined && noZero codes)))
+    (λ fs is. simp length-append (omega (arith, length-errors codes lengths joined fs small is)))
