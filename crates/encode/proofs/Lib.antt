@@ -1,2 +1,3 @@
+pub mod GivenMeasures
 pub mod Measures
 pub mod Shapes
