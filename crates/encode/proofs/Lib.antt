@@ -1,2 +1,3 @@
 pub mod Fieldless
 pub mod Measures
+pub mod Rows
