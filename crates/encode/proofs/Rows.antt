@@ -21,6 +21,7 @@ use Rattle.pen.specs.Writing.{write, Wrote, Framed}
 use Rattle.pen.proofs.Encoding.{Measured, Judged, ableOf, framed, judged, roomOf, refused, finished}
 use Rattle.pen.proofs.Laws.{_then_, nothing}
 use Rattle.pen.proofs.Lists.{and-true, and-right}
+use Rattle.rows.specs.declared.Pen.{Pen}
 use Rattle.rows.specs.Passes.{allPen, allOut, answered, begun, blank, writer}
 use Rattle.rows.proofs.Fields.{and-left}
 use Rattle.rows.proofs.Whole.{rows, allNamed, allInside, total, given-is, length-rows, able-rows, length-rows-bytes, pen-ok, pen-at, length-write, nothing-written, all-written}
@@ -101,3 +102,14 @@ module _ (fs : List FieldDescription) (run : List ℕ) where
         let j = says (N.Done n) v in
         let h = roomOf measures j refl in
         finished measures j refl (written n (omega (arith, h .whole)) (h .fits) small (and-right (leb (length fs) 32767) (h .able)))
+
+    -- the calls of the encoder: c and a are what the pass that measures gives and leaves, r and b those of the answer, w and l of the pass
+    -- that writes
+    pub joined : {c w : Pen} {r : Encoded} {a b l : List ℕ} → length out < 18446744073709551615
+        → c ≡ allPen fs run blank → a ≡ allOut fs run out blank → r ≡ answered c (length fs) (length a) → b ≡ begun r (length fs) a
+        → w ≡ writer r → l ≡ allOut fs run b w → Encodes K.backend K.rowDescription (G.rowDescription fs run) out r l
+    joined {c} {w} {r} {a} {b} {l} small measured kept answer head pen rest =
+        let same : a ≡ out = kept ∙ nothing-written fs run out blank refl in
+        let v : r ≡ answered (allPen fs run blank) (length fs) (length out) = answer ∙ (λ j. answered (measured j) (length fs) (length (same j))) in
+        let e : l ≡ allOut fs run (begun r (length fs) out) (writer r) = rest ∙ (λ j. allOut fs run (head j) (pen j)) ∙ ap (λ (x : List ℕ). allOut fs run (begun r (length fs) x) (writer r)) same in
+        rw e (encoded r small v)
