@@ -1,3 +1,4 @@
+pub mod Door
 pub mod Fieldless
 pub mod Measures
 pub mod Rows

@@ -32,3 +32,16 @@ pub fn no_data(out: &mut [u8]) -> Encoded
 {
     bare(MESSAGE_TYPE_BYTE_NO_DATA, out)
 }
+
+// Doors for callers that have one field or two by value. Walked by hand: the array is lent.
+pub fn row_description_of_one(fields: [FieldDescription; 1], run: &[u8], out: &mut [u8]) -> Encoded
+    ensures { λ r. ⌜ Encodes K.backend K.rowDescription (G.rowDescription fields (now (run .entry))) (now (out .entry)) r (now (out .exit)) ⌝ }
+{
+    row_description(&fields, run, out)
+}
+
+pub fn row_description_of_two(fields: [FieldDescription; 2], run: &[u8], out: &mut [u8]) -> Encoded
+    ensures { λ r. ⌜ Encodes K.backend K.rowDescription (G.rowDescription fields (now (run .entry))) (now (out .entry)) r (now (out .exit)) ⌝ }
+{
+    row_description(&fields, run, out)
+}
