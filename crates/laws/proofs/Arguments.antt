@@ -1,22 +1,25 @@
 -- Which content lists of arguments are, item by item, and when they are none.
 use Prim.Native.Nat.{ℕ, zero, suc, _+_, _≤_, _<_}
-use mathlib.Core.Bool.{Bool, true, false, cond}
+use mathlib.Core.Bool.{Bool, true, false, cond, false≢true}
 use mathlib.Core.List.{List, [], _∷_}
-use mathlib.Core.Logic.{_⊎_, inl, inr, _↔_}
-use mathlib.Core.Option.{Option, some, none, Option·map}
+use mathlib.Core.Logic.{_⊎_, inl, inr, ⊎-elim, ⊎-map, _↔_}
+use mathlib.Core.Option.{Option, some, none}
 use mathlib.Core.Path.{_≡_, refl, ap, sym, _∙_}
 use native.Mathlib.Omega.{arith}
-use borrow.Author.Tests.{leb-true, leb-false, le-leb, lt-leb}
+use borrow.Author.Tests.{leb-true, leb-false}
 use lib.Dec.{leb}
 use lib.IntN.{ℤ, pos, negsuc}
-use lib.ListN.{length, take, drop, length-drop}
+use lib.ListN.{length, take, drop, length-drop, length-take}
 use lib.Seq.{drop-drop}
 use Rattle.protocol.specs.declared.data.FieldDescription.{FieldDescription}
 use Rattle.protocol.specs.Encode.{items, oneBefore, valuesGiven, errorFieldsGiven, rowFieldGiven, rowFieldsGiven}
-use Rattle.protocol.specs.Fields.{ItemContent}
-use Rattle.protocol.specs.Kinds.{nullable, rowField, errorField}
-use Rattle.laws.specs.Arguments.{nth, Some, itself, sizeOf, total, BelowNull, valueAt, Outside}
-use Rattle.laws.specs.EncodeStatements.{ValuesAre, Values, ErrorFieldsAre, ErrorFields, RowFieldsAre, RowFields, NumberItems}
+use Rattle.protocol.specs.Bytes.{Bytes}
+use Rattle.protocol.specs.Each.{HoldsEach}
+use Rattle.protocol.specs.Fields.{ItemContent, ValueInRange, AtomInRange, ItemInRange, ItemsInRange}
+use Rattle.protocol.specs.Kinds.{oid, format, nullable, rowField, errorField}
+use Rattle.laws.specs.Arguments.{nth, Some, All, Unsigned, Signed, TypedField, itself, sizeOf, total, BelowNull, valueAt, Outside}
+use Rattle.laws.specs.EncodeStatements.{Values, ErrorFields, RowFields, NumberItems, ArgumentsInRange}
+use Rattle.laws.proofs.Numbers.{bytes-take, bytes-drop}
 
 -- ---- options
 
@@ -92,3 +95,208 @@ unfolding valuesGiven
 values-many [] [] cs e = let q : [] ≡ cs = cc in rw (← q) refl
 values-many [] (b ∷ bs) cs e = let z : _≡_ {A = ℕ} 0 1 = cc in absurd (omega arith)
 values-many (z ∷ ls) bs cs e = let f = first-value z ls bs cs e in rw (f .is) (ap suc (values-many ls (drop (sizeOf z) bs) (f .rest) (f .was)))
+
+values-right : (ls : List ℤ) (bs : List ℕ) (cs : List (ItemContent nullable)) → valuesGiven ls bs ≡ some cs → (Some BelowNull ls → ⊥) × (total sizeOf ls ≡ length bs)
+unfolding valuesGiven Some total
+values-right [] [] cs e = (λ h. h, refl)
+values-right [] (b ∷ bs) cs e = let z : _≡_ {A = ℕ} 0 1 = cc in absurd (omega arith)
+values-right (z ∷ ls) bs cs e =
+    let f = first-value z ls bs cs e in
+    let ih = values-right ls (drop (sizeOf z) bs) (f .rest) (f .was) in
+    (⊎-elim (f .right) (ih .0), omega (arith, f .fits, simp length-drop at (ih .1)))
+
+-- none, behind a test and a first item
+none-by : {A : Type 0} (x : A) (o : Option (List A)) (t : Bool) → cond t (oneBefore x o) none ≡ none → (t ≡ false) ⊎ (o ≡ none)
+none-by x o false e = inl refl
+none-by x none true e = inr refl
+none-by x (some cs) true e = let z : _≡_ {A = ℕ} 0 1 = cc in absurd (omega arith)
+
+-- n bytes are taken for the first: where there are fewer the total is wrong, and where it is wrong behind them it is wrong at all
+total-wrong : {A : Type 0} (size : A → ℕ) (x : A) (xs : List A) (bs : List ℕ) → (leb (size x) (length bs) ≡ false) ⊎ (total size xs ≡ length (drop (size x) bs) → ⊥) → size x + total size xs ≡ length bs → ⊥
+total-wrong size x xs bs (inl t) e = let l : length bs < size x = leb-false _ _ t in omega arith
+total-wrong size x xs bs (inr h) e = h (simp length-drop (omega arith))
+
+-- a first item of n bytes that is right: what is wrong is wrong behind it, or the total is
+wrong-behind : {A : Type 0} {B : Type 0} (P : A → Type 0) (size : A → ℕ) (x : A) (xs : List A) (bs : List ℕ) (y : B) (o : Option (List B)) → cond (leb (size x) (length bs)) (oneBefore y o) none ≡ none
+    → (o ≡ none → Some P xs ⊎ (total size xs ≡ length (drop (size x) bs) → ⊥)) → (P x ⊎ Some P xs) ⊎ (size x + total size xs ≡ length bs → ⊥)
+wrong-behind P size x xs bs y o e rest =
+    ⊎-elim (λ t. inr (total-wrong size x xs bs (inl t)))
+    (λ h. ⊎-map inr (λ w. total-wrong size x xs bs (inr w)) (rest h))
+    (none-by y o (leb (size x) (length bs)) e)
+
+values-wrong : (ls : List ℤ) (bs : List ℕ) → valuesGiven ls bs ≡ none → Some BelowNull ls ⊎ (total sizeOf ls ≡ length bs → ⊥)
+unfolding valuesGiven Some total
+values-wrong [] [] e = let z : _≡_ {A = ℕ} 0 1 = cc in absurd (omega arith)
+values-wrong [] (b ∷ bs) e = inr (λ h. omega arith)
+values-wrong (pos n ∷ ls) bs e = wrong-behind BelowNull sizeOf (pos n) ls bs (some (take n bs), tt) (valuesGiven ls (drop n bs)) e (values-wrong ls (drop n bs))
+values-wrong (negsuc zero ∷ ls) bs e = ⊎-map inr (λ h q. h (omega arith)) (values-wrong ls bs (⊎-elim (λ t. absurd (false≢true (sym t))) (λ h. h) (none-by (none, tt) (valuesGiven ls bs) true e)))
+values-wrong (negsuc (suc n) ∷ ls) bs e = inl (inl (n, refl))
+
+pub values : Values
+values ls bs = record {
+  items = values-items ls bs;
+  many = values-many ls bs;
+  none = none-exactly (valuesGiven ls bs) (λ cs e. ⊎-elim (values-right ls bs cs e .0) (λ h. h (values-right ls bs cs e .1))) (values-wrong ls bs);
+}
+
+-- ---- an error's fields
+
+-- the first code and length, and the fields after them
+record FirstError (c n : ℕ) (cs ns bs : List ℕ) (fs : List (ItemContent errorField)) : Type 0 where
+  fits : n ≤ length bs
+  rest : List (ItemContent errorField)
+  was : errorFieldsGiven cs ns (drop n bs) ≡ some rest
+  is : fs ≡ (c, (take n bs, tt)) ∷ rest
+
+first-error : (c n : ℕ) (cs ns bs : List ℕ) (fs : List (ItemContent errorField)) → errorFieldsGiven (c ∷ cs) (n ∷ ns) bs ≡ some fs → FirstError c n cs ns bs fs
+unfolding errorFieldsGiven
+first-error c n cs ns bs fs e =
+    let t = let-through (leb n (length bs)) _ fs e in
+    let b = before (c, (take n bs, tt)) (errorFieldsGiven cs ns (drop n bs)) fs (t .1) in
+    record { fits = leb-true _ _ (t .0); rest = b .rest; was = b .was; is = b .is }
+
+errors-items : (cs ns bs : List ℕ) (fs : List (ItemContent errorField)) → errorFieldsGiven cs ns bs ≡ some fs → (i code n : ℕ) → nth cs i ≡ some code → nth ns i ≡ some n → nth fs i ≡ some (code, (take n (drop (total itself (take i ns)) bs), tt))
+unfolding nth total
+errors-items [] ns bs fs e i code n h g = let z : _≡_ {A = ℕ} 0 1 = cc in absurd (omega arith)
+errors-items (c ∷ cs) [] bs fs e i code n h g = let z : _≡_ {A = ℕ} 0 1 = cc in absurd (omega arith)
+errors-items (c ∷ cs) (m ∷ ns) bs fs e zero code n h g =
+    let q : c ≡ code = cc in
+    let p : m ≡ n = cc in
+    let f = first-error c m cs ns bs fs e in
+    rw (f .is, q, p) refl
+errors-items (c ∷ cs) (m ∷ ns) bs fs e (suc i) code n h g =
+    let f = first-error c m cs ns bs fs e in
+    rw (f .is) (errors-items cs ns (drop m bs) (f .rest) (f .was) i code n h g ∙ rw (drop-drop (total itself (take i ns)) m bs) refl)
+
+errors-right : (cs ns bs : List ℕ) (fs : List (ItemContent errorField)) → errorFieldsGiven cs ns bs ≡ some fs → (length fs ≡ length cs) × (length cs ≡ length ns) × (total itself ns ≡ length bs)
+unfolding errorFieldsGiven total
+errors-right [] [] [] fs e = let q : [] ≡ fs = cc in (rw (← q) refl, refl, refl)
+errors-right [] [] (b ∷ bs) fs e = let z : _≡_ {A = ℕ} 0 1 = cc in absurd (omega arith)
+errors-right [] (n ∷ ns) bs fs e = let z : _≡_ {A = ℕ} 0 1 = cc in absurd (omega arith)
+errors-right (c ∷ cs) [] bs fs e = let z : _≡_ {A = ℕ} 0 1 = cc in absurd (omega arith)
+errors-right (c ∷ cs) (n ∷ ns) bs fs e =
+    let f = first-error c n cs ns bs fs e in
+    let ih = errors-right cs ns (drop n bs) (f .rest) (f .was) in
+    (rw (f .is) (ap suc (ih .0)), ap suc (ih .1), omega (arith, f .fits, simp length-drop at (ih .2)))
+
+errors-wrong : (cs ns bs : List ℕ) → errorFieldsGiven cs ns bs ≡ none → (length cs ≡ length ns → ⊥) ⊎ (total itself ns ≡ length bs → ⊥)
+unfolding errorFieldsGiven total
+errors-wrong [] [] [] e = let z : _≡_ {A = ℕ} 0 1 = cc in absurd (omega arith)
+errors-wrong [] [] (b ∷ bs) e = inr (λ h. omega arith)
+errors-wrong [] (n ∷ ns) bs e = inl (λ h. omega arith)
+errors-wrong (c ∷ cs) [] bs e = inl (λ h. omega arith)
+errors-wrong (c ∷ cs) (n ∷ ns) bs e =
+    ⊎-elim (λ t. inr (total-wrong itself n ns bs (inl t)))
+    (λ h. ⊎-map (λ w q. w (omega arith)) (λ w. total-wrong itself n ns bs (inr w)) (errors-wrong cs ns (drop n bs) h))
+    (none-by (c, (take n bs, tt)) (errorFieldsGiven cs ns (drop n bs)) (leb n (length bs)) e)
+
+pub error-fields : ErrorFields
+error-fields cs ns bs = record {
+  items = errors-items cs ns bs;
+  many = λ fs e. errors-right cs ns bs fs e .0;
+  none = none-exactly (errorFieldsGiven cs ns bs) (λ fs e. ⊎-elim (λ w. w (errors-right cs ns bs fs e .1)) (λ w. w (errors-right cs ns bs fs e .2))) (errors-wrong cs ns bs);
+}
+
+-- ---- a row's fields
+
+abbrev inside : FieldDescription → List ℕ → Bool
+inside d run = leb (d .name .start + d .name .len) (length run)
+
+record FirstRow (d : FieldDescription) (ds : List FieldDescription) (run : List ℕ) (fs : List (ItemContent rowField)) : Type 0 where
+  fits : inside d run ≡ true
+  rest : List (ItemContent rowField)
+  was : rowFieldsGiven ds run ≡ some rest
+  is : fs ≡ rowFieldGiven d run ∷ rest
+
+first-row : (d : FieldDescription) (ds : List FieldDescription) (run : List ℕ) (fs : List (ItemContent rowField)) → rowFieldsGiven (d ∷ ds) run ≡ some fs → FirstRow d ds run fs
+unfolding rowFieldsGiven
+first-row d ds run fs e =
+    let t = let-through (inside d run) _ fs e in
+    let b = before (rowFieldGiven d run) (rowFieldsGiven ds run) fs (t .1) in
+    record { fits = t .0; rest = b .rest; was = b .was; is = b .is }
+
+rows-items : (ds : List FieldDescription) (run : List ℕ) (fs : List (ItemContent rowField)) → rowFieldsGiven ds run ≡ some fs → (i : ℕ) (d : FieldDescription) → nth ds i ≡ some d → nth fs i ≡ some (rowFieldGiven d run)
+unfolding nth
+rows-items [] run fs e i d h = let z : _≡_ {A = ℕ} 0 1 = cc in absurd (omega arith)
+rows-items (d ∷ ds) run fs e zero x h =
+    let q : d ≡ x = cc in
+    rw (first-row d ds run fs e .is, q) refl
+rows-items (d ∷ ds) run fs e (suc i) x h =
+    let f = first-row d ds run fs e in
+    rw (f .is) (rows-items ds run (f .rest) (f .was) i x h)
+
+rows-right : (ds : List FieldDescription) (run : List ℕ) (fs : List (ItemContent rowField)) → rowFieldsGiven ds run ≡ some fs → (length fs ≡ length ds) × (Some (Outside run) ds → ⊥)
+unfolding rowFieldsGiven Some
+rows-right [] run fs e = let q : [] ≡ fs = cc in (rw (← q) refl, λ h. h)
+rows-right (d ∷ ds) run fs e =
+    let f = first-row d ds run fs e in
+    let ih = rows-right ds run (f .rest) (f .was) in
+    let l : d .name .start + d .name .len ≤ length run = leb-true _ _ (f .fits) in
+    (rw (f .is) (ap suc (ih .0)), ⊎-elim (λ h. omega (arith, h, l)) (ih .1))
+
+rows-wrong : (ds : List FieldDescription) (run : List ℕ) → rowFieldsGiven ds run ≡ none → Some (Outside run) ds
+unfolding rowFieldsGiven Some
+rows-wrong [] run e = let z : _≡_ {A = ℕ} 0 1 = cc in absurd (omega arith)
+rows-wrong (d ∷ ds) run e = ⊎-map (λ t. leb-false _ _ t) (rows-wrong ds run) (none-by (rowFieldGiven d run) (rowFieldsGiven ds run) (inside d run) e)
+
+pub row-fields : RowFields
+row-fields ds run = record {
+  items = rows-items ds run;
+  many = λ fs e. rows-right ds run fs e .0;
+  none = none-exactly (rowFieldsGiven ds run) (λ fs e. rows-right ds run fs e .1) (rows-wrong ds run);
+}
+
+-- ---- oids and formats
+
+pub number-items : NumberItems
+unfolding nth
+number-items A [] i x e = let z : _≡_ {A = ℕ} 0 1 = cc in absurd (omega arith)
+number-items A (y ∷ xs) zero x e = let q : y ≡ x = cc in rw q refl
+number-items A (y ∷ xs) (suc i) x e = number-items A xs i x e
+
+-- ---- arguments of their types are in range
+
+oids-range : (xs : List ℕ) → All (Unsigned 4) xs → ItemsInRange oid (items xs)
+unfolding All ItemsInRange ItemInRange HoldsEach AtomInRange
+oids-range [] h = tt
+oids-range (x ∷ xs) h = ((h .0, tt), oids-range xs (h .1))
+
+formats-range : (zs : List ℤ) → All (Signed 2) zs → ItemsInRange format (items zs)
+unfolding All ItemsInRange ItemInRange HoldsEach AtomInRange
+formats-range [] h = tt
+formats-range (z ∷ zs) h = ((h .0, tt), formats-range zs (h .1))
+
+value-range : (z : ℤ) (bs : List ℕ) → Signed 4 z → Bytes bs → ValueInRange (valueAt z 0 bs)
+unfolding ValueInRange
+value-range (pos n) bs h b = (bytes-take n bs b, simp length-take (omega (arith, h)))
+value-range (negsuc n) bs h b = tt
+
+values-range : (ls : List ℤ) (bs : List ℕ) (cs : List (ItemContent nullable)) → All (Signed 4) ls → Bytes bs → valuesGiven ls bs ≡ some cs → ItemsInRange nullable cs
+unfolding All valuesGiven ItemsInRange ItemInRange HoldsEach AtomInRange
+values-range [] [] cs h b e = let q : [] ≡ cs = cc in rw (← q) tt
+values-range [] (x ∷ bs) cs h b e = let z : _≡_ {A = ℕ} 0 1 = cc in absurd (omega arith)
+values-range (z ∷ ls) bs cs h b e =
+    let f = first-value z ls bs cs e in
+    rw (f .is) ((value-range z bs (h .0) b, tt), values-range ls (drop (sizeOf z) bs) (f .rest) (h .1) (bytes-drop (sizeOf z) bs b) (f .was))
+
+errors-range : (cs ns bs : List ℕ) (fs : List (ItemContent errorField)) → Bytes cs → Bytes bs → errorFieldsGiven cs ns bs ≡ some fs → ItemsInRange errorField fs
+unfolding errorFieldsGiven Bytes ItemsInRange ItemInRange HoldsEach AtomInRange
+errors-range [] [] [] fs h b e = let q : [] ≡ fs = cc in rw (← q) tt
+errors-range [] [] (x ∷ bs) fs h b e = let z : _≡_ {A = ℕ} 0 1 = cc in absurd (omega arith)
+errors-range [] (n ∷ ns) bs fs h b e = let z : _≡_ {A = ℕ} 0 1 = cc in absurd (omega arith)
+errors-range (c ∷ cs) [] bs fs h b e = let z : _≡_ {A = ℕ} 0 1 = cc in absurd (omega arith)
+errors-range (c ∷ cs) (n ∷ ns) bs fs h b e =
+    let f = first-error c n cs ns bs fs e in
+    rw (f .is) ((h .0, (bytes-take n bs b, tt)), errors-range cs ns (drop n bs) (f .rest) (h .1) (bytes-drop n bs b) (f .was))
+
+rows-range : (ds : List FieldDescription) (run : List ℕ) (fs : List (ItemContent rowField)) → All TypedField ds → Bytes run → rowFieldsGiven ds run ≡ some fs → ItemsInRange rowField fs
+unfolding All rowFieldsGiven ItemsInRange ItemInRange HoldsEach AtomInRange
+rows-range [] run fs h b e = let q : [] ≡ fs = cc in rw (← q) tt
+rows-range (d ∷ ds) run fs h b e =
+    let f = first-row d ds run fs e in
+    let t = h .0 in
+    let name = bytes-take (d .name .len) _ (bytes-drop (d .name .start) run b) in
+    rw (f .is) ((name, (t .table, (t .column, (t .type, (t .size, (t .modifier, (t .format, tt))))))), rows-range ds run (f .rest) (h .1) b (f .was))
+
+pub in-range : ArgumentsInRange
+in-range = record { oids = oids-range; formats = formats-range; values = values-range; errorFields = errors-range; rowFields = rows-range }

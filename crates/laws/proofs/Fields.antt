@@ -43,7 +43,7 @@ field-placed (one a) c pre post = atom-placed a c pre post
 field-placed (counted k i) cs pre post = (refl, refl)
 field-placed (ended i) cs pre post = (refl, refl)
 
-fields-placed : (xs : List Field) (c : Each Content xs) (pre post : List ℕ) → FieldsPlaced (pre ++ (bytesOfEach bytes xs c ++ post)) xs (length pre) (slotsOfEach bytes slot xs (length pre) c) c
+pub fields-placed : (xs : List Field) (c : Each Content xs) (pre post : List ℕ) → FieldsPlaced (pre ++ (bytesOfEach bytes xs c ++ post)) xs (length pre) (slotsOfEach bytes slot xs (length pre) c) c
 unfolding FieldsPlaced bytesOfEach slotsOfEach
 fields-placed [] c pre post = tt
 fields-placed (x ∷ xs) c pre post =

@@ -13,8 +13,10 @@ pub mod Refusals
 pub mod Elements
 pub mod ElementCalls
 pub mod Arguments
+pub mod Encoding
 pub mod Edges
 pub mod Table
 pub mod Headers
 pub mod MoreBytes
 pub mod NeedMore
+pub mod InOrder

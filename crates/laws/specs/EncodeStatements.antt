@@ -1,26 +1,27 @@
 -- What is proved of encoding: a page to read by itself. An encoder of the kind k in the mode m is a function of the content that its arguments are,
 -- if they are one, and of the output before; it gives its answer and the output after. The theorems hold of `theEncoder`, which is what every
 -- encoder's contract says.
-use Prim.Native.Nat.{ℕ, _≤_, _<_}
-use mathlib.Core.Bool.{Bool, true, false}
-use mathlib.Core.List.{List, [], _∷_, _++_, map}
+use Prim.Native.Nat.{ℕ, _≤_}
+use mathlib.Core.Bool.{true}
+use mathlib.Core.List.{List, _++_}
 use mathlib.Core.Logic.{_⊎_, _↔_}
 use mathlib.Core.Option.{Option, some, none}
 use mathlib.Core.Path.{_≡_}
-use lib.IntN.{ℤ, negsuc}
+use lib.IntN.{ℤ}
 use lib.ListN.{length, take, drop}
 use Rattle.protocol.specs.declared.Decoded.the-variants as D
 use Rattle.protocol.specs.declared.Encoded.the-variants as N
 use Rattle.protocol.specs.declared.Encoded.{Encoded}
 use Rattle.protocol.specs.declared.Rules.{Rules}
 use Rattle.protocol.specs.declared.data.FieldDescription.{FieldDescription}
+use Rattle.protocol.specs.Bytes.{Bytes}
 use Rattle.protocol.specs.Each.{slotsOfEach}
 use Rattle.protocol.specs.Encode.{items, valuesGiven, errorFieldsGiven, rowFieldGiven, rowFieldsGiven, encodedBy, writtenBy, Encodes}
-use Rattle.protocol.specs.Fields.{ItemContent, bytes, slot}
-use Rattle.protocol.specs.Kinds.{Kind, Mode, modes, IsIn, nullable, rowField, errorField}
+use Rattle.protocol.specs.Fields.{ItemContent, ItemsInRange, bytes, slot}
+use Rattle.protocol.specs.Kinds.{Kind, Mode, modes, IsIn, oid, format, nullable, rowField, errorField}
 use Rattle.protocol.specs.Refusals.{lengthAboveLimit, outputTooShort, notRepresentable}
 use Rattle.protocol.specs.WellFormed.{Contents, bodyBytes, bodyStart, lengthOf, frame, AllInRange, allAble, recordOf}
-use Rattle.laws.specs.Arguments.{nth, Some, itself, sizeOf, total, BelowNull, valueAt, Outside}
+use Rattle.laws.specs.Arguments.{nth, Some, All, Unsigned, Signed, TypedField, itself, sizeOf, total, BelowNull, valueAt, Outside}
 use Rattle.laws.specs.Items.{found, Answers}
 use Rattle.laws.specs.Places.{FieldsPlaced}
 use Rattle.laws.specs.Statements.{Decoder, ElementCall}
@@ -117,3 +118,11 @@ RowFields = (fields : List FieldDescription) (run : List ℕ) → RowFieldsAre f
 -- Oids and formats: one for each number.
 abbrev pub NumberItems : Type 1
 NumberItems = (A : Type 0) (xs : List A) (i : ℕ) (x : A) → nth xs i ≡ some x → nth (items xs) i ≡ some (x, tt)
+
+-- 5. Arguments of their types are in range, as the round trip asks of a content.
+pub record ArgumentsInRange : Type 0 where
+  pub oids : (xs : List ℕ) → All (Unsigned 4) xs → ItemsInRange oid (items xs)
+  pub formats : (zs : List ℤ) → All (Signed 2) zs → ItemsInRange format (items zs)
+  pub values : (lengths : List ℤ) (joined : List ℕ) (cs : List (ItemContent nullable)) → All (Signed 4) lengths → Bytes joined → valuesGiven lengths joined ≡ some cs → ItemsInRange nullable cs
+  pub errorFields : (codes lengths joined : List ℕ) (cs : List (ItemContent errorField)) → Bytes codes → Bytes joined → errorFieldsGiven codes lengths joined ≡ some cs → ItemsInRange errorField cs
+  pub rowFields : (fields : List FieldDescription) (run : List ℕ) (cs : List (ItemContent rowField)) → All TypedField fields → Bytes run → rowFieldsGiven fields run ≡ some cs → ItemsInRange rowField cs

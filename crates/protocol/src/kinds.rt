@@ -10,9 +10,9 @@ use crate::response;
 use crate::response::GssEncResponse;
 use crate::response::SslResponse;
 
-const LARGE: u32 = 1048576;
+pub const LARGE: u32 = 1048576;
 
-const SMALL: u32 = 8192;
+pub const SMALL: u32 = 8192;
 
 // A kind's smallest length and its limit, or that there is no such kind.
 pub enum Bounds {

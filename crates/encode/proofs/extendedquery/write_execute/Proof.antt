@@ -1,0 +1,28 @@
+-- `encode::extendedquery::write_execute` meets its contract.
+use native.Mathlib.Omega.{arith}
+use borrow.Author.Needs.{needs}
+use denote.Ref.{now}
+use Rattle.protocol.specs.Each.{bytesOfEach}
+use Rattle.protocol.specs.Fields.{bytes, atomBytes}
+use Rattle.protocol.specs.Kinds as K
+use Rattle.protocol.specs.WellFormed.{bodyBytes}
+use Rattle.pen.proofs.Encoding.{framed}
+use Rattle.pen.proofs.Laws.{_then_, nothing}
+use Rattle.encode.specs.Given as G
+use Rattle.encode.proofs.extendedquery.write_execute.Statement.{statement}
+use Rattle.encode.proofs.extendedquery.write_execute.Tie as tie
+
+returns : tie.Need-returns
+unfolding K.execute G.execute bodyBytes bytesOfEach bytes atomBytes
+returns c = λ z e.
+    let c3 = c .before .before in
+    let c2 = c3 .before .before .before .before in
+    let c1 = c2 .before .before .before .before in
+    let s = c1 .before .before .before .before in
+    framed K.execute (now (s .args .name), (z, tt)) (c1 .put-head .ensures)
+    (c2 .put-text .ensures then rw e at (c3 .put-word .ensures) then nothing)
+    (omega (arith, s .pre))
+
+pub write-execute-spec : {M : Type 1} → statement M
+write-execute-spec =
+    tie.close (tie.spec (λ c κs. search needs) (λ c κs. search needs) (λ c κs. search needs) (λ c. search needs) returns)

@@ -1,0 +1,153 @@
+// The extended query messages, as in extendedquery.rs.
+ghost use Prim.Native.Nat.{_+_, _*_, _≤_};
+ghost use mathlib.Core.Path.{_≡_};
+ghost use lib.IntN.{ℤ};
+ghost use lib.ListN.{length};
+ghost use Rattle.protocol.specs.Bytes.{bitsOf};
+ghost use Rattle.protocol.specs.Encode.{Encodes};
+ghost use Rattle.protocol.specs.Kinds as K;
+ghost use Rattle.pen.specs.Writing.{Framed};
+ghost use Rattle.encode.specs.Given as G;
+use crate::bare;
+use pen::bits32;
+use pen::no_zero;
+use pen::plus;
+use pen::plus4;
+use pen::put_byte;
+use pen::put_head;
+use pen::put_oids;
+use pen::put_text;
+use pen::put_word;
+use pen::verdict;
+use protocol::Encoded;
+use protocol::extendedquery::MESSAGE_TYPE_BYTE_BIND_COMPLETE;
+use protocol::extendedquery::MESSAGE_TYPE_BYTE_CLOSE;
+use protocol::extendedquery::MESSAGE_TYPE_BYTE_CLOSE_COMPLETE;
+use protocol::extendedquery::MESSAGE_TYPE_BYTE_DESCRIBE;
+use protocol::extendedquery::MESSAGE_TYPE_BYTE_EXECUTE;
+use protocol::extendedquery::MESSAGE_TYPE_BYTE_FLUSH;
+use protocol::extendedquery::MESSAGE_TYPE_BYTE_PARSE;
+use protocol::extendedquery::MESSAGE_TYPE_BYTE_PARSE_COMPLETE;
+use protocol::extendedquery::MESSAGE_TYPE_BYTE_PORTAL_SUSPENDED;
+use protocol::extendedquery::MESSAGE_TYPE_BYTE_SYNC;
+use protocol::extendedquery::is_target;
+use protocol::kinds::LARGE;
+use protocol::kinds::SMALL;
+
+fn write_parse(name: &[u8], query: &[u8], type_oids: &[u32], n: usize, out: &mut [u8])
+    requires { ⌜ (n ≡ length (now name) + length (now query) + 4 * length (now «type_oids») + 9) × (n ≤ length (now out)) × (n ≤ 1048577) × (length (now «type_oids») ≤ 32767) ⌝ }
+    ensures { λ r. ⌜ Framed K.typed K.parse (G.parse (now (name .entry)) (now (query .entry)) (now («type_oids» .entry))) (now (out .entry)) (now (out .exit)) ⌝ }
+{
+    let at = put_head(out, MESSAGE_TYPE_BYTE_PARSE, n);
+    let at = put_text(out, at, name);
+    let at = put_text(out, at, query);
+    put_oids(out, at, type_oids);
+}
+
+pub fn parse(name: &[u8], query: &[u8], type_oids: &[u32], out: &mut [u8]) -> Encoded
+    ensures { λ r. ⌜ Encodes K.frontend K.parse (G.parse (now (name .entry)) (now (query .entry)) (now («type_oids» .entry))) (now (out .entry)) r (now (out .exit)) ⌝ }
+{
+    let able = no_zero(name) & (no_zero(query) & (type_oids.len() <= 32767));
+    let size = plus4(name.len(), query.len(), type_oids.len() * 4, 8);
+    let r = verdict(able, LARGE, size, out.len());
+    let Encoded::Done(n) = r else {
+        return r;
+    };
+    write_parse(name, query, type_oids, n, out);
+    r
+}
+
+fn write_aim(type_byte: u8, target_type: u8, name: &[u8], n: usize, out: &mut [u8])
+    requires { ⌜ (n ≡ length (now name) + 7) × (n ≤ length (now out)) × (n ≤ 8193) ⌝ }
+    ensures { λ r. ⌜ Framed K.typed (G.aimed «type_byte») (G.aimOf «type_byte» «target_type» (now (name .entry))) (now (out .entry)) (now (out .exit)) ⌝ }
+{
+    let at = put_head(out, type_byte, n);
+    let at = put_byte(out, at, target_type);
+    put_text(out, at, name);
+}
+
+// What Close and Describe have in common: a target and a name.
+fn aim(type_byte: u8, target_type: u8, name: &[u8], out: &mut [u8]) -> Encoded
+    ensures { λ r. ⌜ Encodes K.frontend (G.aimed «type_byte») (G.aimOf «type_byte» «target_type» (now (name .entry))) (now (out .entry)) r (now (out .exit)) ⌝ }
+{
+    let able = is_target(target_type) & no_zero(name);
+    let size = plus(name.len(), 6);
+    let r = verdict(able, SMALL, size, out.len());
+    let Encoded::Done(n) = r else {
+        return r;
+    };
+    write_aim(type_byte, target_type, name, n, out);
+    r
+}
+
+pub fn close(target_type: u8, name: &[u8], out: &mut [u8]) -> Encoded
+    ensures { λ r. ⌜ Encodes K.frontend K.close (G.close «target_type» (now (name .entry))) (now (out .entry)) r (now (out .exit)) ⌝ }
+{
+    aim(MESSAGE_TYPE_BYTE_CLOSE, target_type, name, out)
+}
+
+pub fn describe(target_type: u8, name: &[u8], out: &mut [u8]) -> Encoded
+    ensures { λ r. ⌜ Encodes K.frontend K.describe (G.describe «target_type» (now (name .entry))) (now (out .entry)) r (now (out .exit)) ⌝ }
+{
+    aim(MESSAGE_TYPE_BYTE_DESCRIBE, target_type, name, out)
+}
+
+// rows is the bits of the number of rows.
+fn write_execute(name: &[u8], rows: u32, n: usize, out: &mut [u8])
+    requires { ⌜ (n ≡ length (now name) + 10) × (n ≤ length (now out)) × (n ≤ 8193) ⌝ }
+    ensures { λ r. ⌜ ((z : ℤ) → rows ≡ bitsOf 4 z → Framed K.typed K.execute (G.execute (now (name .entry)) z) (now (out .entry)) (now (out .exit))) ⌝ }
+{
+    let at = put_head(out, MESSAGE_TYPE_BYTE_EXECUTE, n);
+    let at = put_text(out, at, name);
+    put_word(out, at, rows);
+}
+
+pub fn execute(name: &[u8], max_rows: i32, out: &mut [u8]) -> Encoded
+    ensures { λ r. ⌜ Encodes K.frontend K.execute (G.execute (now (name .entry)) «max_rows») (now (out .entry)) r (now (out .exit)) ⌝ }
+{
+    let rows = bits32(max_rows);
+    let able = no_zero(name);
+    let size = plus(name.len(), 9);
+    let r = verdict(able, SMALL, size, out.len());
+    let Encoded::Done(n) = r else {
+        return r;
+    };
+    write_execute(name, rows, n, out);
+    r
+}
+
+pub fn flush(out: &mut [u8]) -> Encoded
+    ensures { λ r. ⌜ Encodes K.frontend K.flush G.flush (now (out .entry)) r (now (out .exit)) ⌝ }
+{
+    bare(MESSAGE_TYPE_BYTE_FLUSH, out)
+}
+
+pub fn sync(out: &mut [u8]) -> Encoded
+    ensures { λ r. ⌜ Encodes K.frontend K.sync G.sync (now (out .entry)) r (now (out .exit)) ⌝ }
+{
+    bare(MESSAGE_TYPE_BYTE_SYNC, out)
+}
+
+pub fn parse_complete(out: &mut [u8]) -> Encoded
+    ensures { λ r. ⌜ Encodes K.backend K.parseComplete G.parseComplete (now (out .entry)) r (now (out .exit)) ⌝ }
+{
+    bare(MESSAGE_TYPE_BYTE_PARSE_COMPLETE, out)
+}
+
+pub fn bind_complete(out: &mut [u8]) -> Encoded
+    ensures { λ r. ⌜ Encodes K.backend K.bindComplete G.bindComplete (now (out .entry)) r (now (out .exit)) ⌝ }
+{
+    bare(MESSAGE_TYPE_BYTE_BIND_COMPLETE, out)
+}
+
+pub fn close_complete(out: &mut [u8]) -> Encoded
+    ensures { λ r. ⌜ Encodes K.backend K.closeComplete G.closeComplete (now (out .entry)) r (now (out .exit)) ⌝ }
+{
+    bare(MESSAGE_TYPE_BYTE_CLOSE_COMPLETE, out)
+}
+
+pub fn portal_suspended(out: &mut [u8]) -> Encoded
+    ensures { λ r. ⌜ Encodes K.backend K.portalSuspended G.portalSuspended (now (out .entry)) r (now (out .exit)) ⌝ }
+{
+    bare(MESSAGE_TYPE_BYTE_PORTAL_SUSPENDED, out)
+}

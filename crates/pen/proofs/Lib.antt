@@ -1,0 +1,6 @@
+pub mod Encoding
+pub mod GivenLaws
+pub mod Laws
+pub mod Lists
+pub mod Signs
+pub mod ValueLaws

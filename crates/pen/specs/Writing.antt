@@ -1,0 +1,37 @@
+-- What a writer does to the output, and the answer that comes before anything is written.
+use Prim.Native.Nat.{ℕ, _+_}
+use mathlib.Core.Bool.{Bool, cond}
+use mathlib.Core.List.{List, [], _∷_}
+use mathlib.Core.Option.{Option, some}
+use mathlib.Core.Path.{_≡_}
+use lib.Dec.{ltb}
+use lib.ListN.{length, set}
+use Rattle.protocol.specs.declared.Encoded.the-variants as N
+use Rattle.protocol.specs.declared.Encoded.{Encoded}
+use Rattle.protocol.specs.Kinds.{Envelope, Kind}
+use Rattle.protocol.specs.Refusals.{lengthAboveLimit, outputTooShort, notRepresentable}
+use Rattle.protocol.specs.WellFormed.{Contents, frame}
+
+-- d with xs stored from p on
+abbrev pub write : List ℕ → ℕ → List ℕ → List ℕ
+write d p [] = d
+write d p (x ∷ xs) = write (set d p x) (p + 1) xs
+
+-- out is d with the n bytes xs stored from p on, and next is the place after them
+pub record Wrote (d : List ℕ) (p : ℕ) (xs : List ℕ) (n : ℕ) (out : List ℕ) (next : ℕ) : Type 0 where
+  pub bytes : out ≡ write d p xs
+  pub size : length xs ≡ n
+  pub place : next ≡ p + n
+
+-- left is d with the frame of what is given stored at its start
+pub record Framed (e : Envelope) (k : Kind) (given : Option (Contents k)) (d left : List ℕ) : Type 0 where
+  pub bytes : (c : Contents k) → given ≡ some c → left ≡ write d 0 (frame e k c)
+
+-- the answer to a frame whose length is size, with uncounted bytes that it does not count
+unfoldable pub verdictOf : Bool → ℕ → ℕ → ℕ → ℕ → Encoded
+verdictOf able limit size uncounted room =
+    cond able
+    (cond (ltb limit size) (N.Refused lengthAboveLimit 0)
+    (cond (ltb room (size + uncounted)) (N.Refused outputTooShort 0)
+    (N.Done (size + uncounted))))
+    (N.Refused notRepresentable 0)

@@ -1,0 +1,205 @@
+// Writers of the fields of a frame: each writes at a place of the output and answers the place after it. And what comes before any
+// write: sizes that cannot wrap, the scan for zero bytes, and the answer.
+pub mod values;
+
+ghost use Prim.Native.Nat.{_+_, _-_, _*_, _≤_, min};
+ghost use mathlib.Core.List.{[], _++_, _∷_};
+ghost use mathlib.Core.Path.{_≡_};
+ghost use lib.ListN.{length};
+ghost use Rattle.protocol.specs.Bytes.{be, bitsOf, noZero};
+ghost use Rattle.protocol.specs.Encode.{items};
+ghost use Rattle.protocol.specs.Fields.{bytes, itemsBytes};
+ghost use Rattle.protocol.specs.Kinds.{format, formats, oid, oids, typed};
+ghost use Rattle.protocol.specs.WellFormed.{header};
+ghost use Rattle.pen.specs.Writing.{Wrote, verdictOf};
+use protocol::Encoded;
+use protocol::refusal::LENGTH_ABOVE_LIMIT;
+use protocol::refusal::NOT_REPRESENTABLE;
+use protocol::refusal::OUTPUT_TOO_SHORT;
+
+// ---- numbers
+
+pub fn put_byte(out: &mut [u8], at: usize, x: u8) -> usize
+    requires { ⌜ at + 1 ≤ length (now out) ⌝ }
+    ensures { λ r. ⌜ Wrote (now (out .entry)) at (x ∷ []) 1 (now (out .exit)) r ⌝ }
+{
+    out[at] = x;
+    at + 1
+}
+
+pub fn put_half(out: &mut [u8], at: usize, x: u16) -> usize
+    requires { ⌜ at + 2 ≤ length (now out) ⌝ }
+    ensures { λ r. ⌜ Wrote (now (out .entry)) at (be 2 x) 2 (now (out .exit)) r ⌝ }
+{
+    let at = put_byte(out, at, (x / 256 % 256) as u8);
+    put_byte(out, at, (x % 256) as u8)
+}
+
+pub fn put_word(out: &mut [u8], at: usize, x: u32) -> usize
+    requires { ⌜ at + 4 ≤ length (now out) ⌝ }
+    ensures { λ r. ⌜ Wrote (now (out .entry)) at (be 4 x) 4 (now (out .exit)) r ⌝ }
+{
+    let at = put_byte(out, at, (x / 256 / 256 / 256 % 256) as u8);
+    let at = put_byte(out, at, (x / 256 / 256 % 256) as u8);
+    let at = put_byte(out, at, (x / 256 % 256) as u8);
+    put_byte(out, at, (x % 256) as u8)
+}
+
+// The bits of a signed number, in two's complement.
+pub fn bits8(x: i8) -> u8
+    ensures { λ r. ⌜ r ≡ bitsOf 1 x ⌝ }
+{
+    if x < 0 {
+        255 - ((-1 - x) as u8)
+    } else {
+        x as u8
+    }
+}
+
+pub fn bits16(x: i16) -> u16
+    ensures { λ r. ⌜ r ≡ bitsOf 2 x ⌝ }
+{
+    if x < 0 {
+        65535 - ((-1 - x) as u16)
+    } else {
+        x as u16
+    }
+}
+
+pub fn bits32(x: i32) -> u32
+    ensures { λ r. ⌜ r ≡ bitsOf 4 x ⌝ }
+{
+    if x < 0 {
+        4294967295 - ((-1 - x) as u32)
+    } else {
+        x as u32
+    }
+}
+
+// ---- bytes and strings
+
+pub fn put_bytes(out: &mut [u8], at: usize, s: &[u8]) -> usize
+    requires { ⌜ at + length (now s) ≤ length (now out) ⌝ }
+    ensures { λ r. ⌜ Wrote (now (out .entry)) at (now (s .entry)) (length (now (s .entry))) (now (out .exit)) r ⌝ }
+{
+    let mut i = 0;
+    let mut p = at;
+    while i < s.len() {
+        out[p] = s[i];
+        p += 1;
+        i += 1;
+    }
+    p
+}
+
+// A string, with its zero byte.
+pub fn put_text(out: &mut [u8], at: usize, s: &[u8]) -> usize
+    requires { ⌜ at + length (now s) + 1 ≤ length (now out) ⌝ }
+    ensures { λ r. ⌜ Wrote (now (out .entry)) at (now (s .entry) ++ 0 ∷ []) (length (now (s .entry)) + 1) (now (out .exit)) r ⌝ }
+{
+    let at = put_bytes(out, at, s);
+    put_byte(out, at, 0)
+}
+
+pub fn no_zero(s: &[u8]) -> bool
+    ensures { λ r. ⌜ r ≡ noZero (now (s .entry)) ⌝ }
+{
+    let mut i = 0;
+    while i < s.len() {
+        if s[i] == 0 {
+            return false;
+        }
+        i += 1;
+    }
+    true
+}
+
+// ---- lists
+
+// Numbers of four bytes each, and of two.
+pub fn put_words(out: &mut [u8], at: usize, xs: &[u32]) -> usize
+    requires { ⌜ at + 4 * length (now xs) ≤ length (now out) ⌝ }
+    ensures { λ r. ⌜ Wrote (now (out .entry)) at (itemsBytes oid (items (now (xs .entry)))) (4 * length (now (xs .entry))) (now (out .exit)) r ⌝ }
+{
+    let mut i = 0;
+    let mut p = at;
+    while i < xs.len() {
+        p = put_word(out, p, xs[i]);
+        i += 1;
+    }
+    p
+}
+
+pub fn put_halves(out: &mut [u8], at: usize, xs: &[i16]) -> usize
+    requires { ⌜ at + 2 * length (now xs) ≤ length (now out) ⌝ }
+    ensures { λ r. ⌜ Wrote (now (out .entry)) at (itemsBytes format (items (now (xs .entry)))) (2 * length (now (xs .entry))) (now (out .exit)) r ⌝ }
+{
+    let mut i = 0;
+    let mut p = at;
+    while i < xs.len() {
+        p = put_half(out, p, bits16(xs[i]));
+        i += 1;
+    }
+    p
+}
+
+// The same, with their count before them.
+pub fn put_oids(out: &mut [u8], at: usize, xs: &[u32]) -> usize
+    requires { ⌜ (at + 4 * length (now xs) + 2 ≤ length (now out)) × (length (now xs) ≤ 32767) ⌝ }
+    ensures { λ r. ⌜ Wrote (now (out .entry)) at (bytes oids (items (now (xs .entry)))) (2 + 4 * length (now (xs .entry))) (now (out .exit)) r ⌝ }
+{
+    let at = put_half(out, at, xs.len() as u16);
+    put_words(out, at, xs)
+}
+
+pub fn put_formats(out: &mut [u8], at: usize, xs: &[i16]) -> usize
+    requires { ⌜ (at + 2 * length (now xs) + 2 ≤ length (now out)) × (length (now xs) ≤ 32767) ⌝ }
+    ensures { λ r. ⌜ Wrote (now (out .entry)) at (bytes formats (items (now (xs .entry)))) (2 + 2 * length (now (xs .entry))) (now (out .exit)) r ⌝ }
+{
+    let at = put_half(out, at, xs.len() as u16);
+    put_halves(out, at, xs)
+}
+
+// ---- sizes, the answer, and the head of a frame
+
+// a + b, or the largest usize where that is less.
+pub fn plus(a: usize, b: usize) -> usize
+    ensures { λ r. ⌜ r ≡ min (a + b) 18446744073709551615 ⌝ }
+{
+    if b <= 18446744073709551615 - a {
+        a + b
+    } else {
+        18446744073709551615
+    }
+}
+
+pub fn plus4(a: usize, b: usize, c: usize, d: usize) -> usize
+    ensures { λ r. ⌜ r ≡ min (a + b + c + d) 18446744073709551615 ⌝ }
+{
+    plus(plus(a, b), plus(c, d))
+}
+
+// The answer to a frame whose length word is size, before anything of it is written.
+pub fn verdict(able: bool, limit: u32, size: usize, room: usize) -> Encoded
+    ensures { λ r. ⌜ r ≡ verdictOf able limit size 1 room ⌝ }
+{
+    if able {
+        if (limit as usize) < size {
+            return Encoded::Refused(LENGTH_ABOVE_LIMIT, 0);
+        }
+        if size < room {
+            return Encoded::Done(size + 1);
+        }
+        return Encoded::Refused(OUTPUT_TOO_SHORT, 0);
+    }
+    Encoded::Refused(NOT_REPRESENTABLE, 0)
+}
+
+// The type byte and the length word of a frame of n bytes, at the output's start.
+pub fn put_head(out: &mut [u8], type_byte: u8, n: usize) -> usize
+    requires { ⌜ (5 ≤ n) × (n ≤ length (now out)) × (n ≤ 1048577) ⌝ }
+    ensures { λ r. ⌜ Wrote (now (out .entry)) 0 (header typed «type_byte» (n - 5)) 5 (now (out .exit)) r ⌝ }
+{
+    let at = put_byte(out, 0, type_byte);
+    put_word(out, at, (n - 1) as u32)
+}

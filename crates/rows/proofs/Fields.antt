@@ -1,0 +1,59 @@
+-- One field: its name's length, and its turn in a pass.
+use Prim.Native.Nat.{ℕ, _+_, _≤_, _<_, min}
+use mathlib.Core.Bool.{Bool, true, false, cond, _&&_}
+use mathlib.Core.List.{List}
+use mathlib.Core.Path.{_≡_, refl, ap, _∙_, sym}
+use native.Mathlib.Omega.{arith}
+use borrow.Author.Tests.{leb-true}
+use lib.Dec.{leb}
+use lib.ListN.{length, take, drop, length-take, length-drop}
+use Rattle.protocol.specs.declared.data.FieldDescription.{FieldDescription}
+use Rattle.protocol.specs.Bytes.{noZero}
+use Rattle.protocol.specs.Encode.{rowFieldGiven}
+use Rattle.protocol.specs.Fields.{itemBytes}
+use Rattle.protocol.specs.Kinds.{rowField}
+use Rattle.pen.specs.Writing.{write, Wrote}
+use Rattle.pen.proofs.Lists.{and-right}
+use Rattle.rows.specs.declared.Pen.{Pen}
+use Rattle.rows.specs.Passes.{named, after, stepPen, stepOut}
+
+pub part-length : (xs : List ℕ) (s n : ℕ) → s + n ≤ length xs → length (take n (drop s xs)) ≡ n
+part-length xs s n h = omega (arith, length-take n (drop s xs), length-drop s xs)
+
+pub resized : {d xs left : List ℕ} {p n m next : ℕ} → Wrote d p xs n left next → n ≡ m → Wrote d p xs m left next
+resized w e = record { bytes = w .bytes; size = w .size ∙ e; place = omega (arith, w .place, e) }
+
+pub and-left : (a b : Bool) → a && b ≡ true → a ≡ true
+and-left true b e = refl
+and-left false b e = e
+
+pub inside : (f : FieldDescription) (run : List ℕ) → named f run ≡ true → f .name .start + f .name .len ≤ length run
+unfolding named
+inside f run e = leb-true _ _ (and-left _ (noZero (take (f .name .len) (drop (f .name .start) run))) e)
+
+-- what the code has found of a field: whether its name can be written, and the place after it
+module _ (c : Pen) (f : FieldDescription) (run : List ℕ) {able : Bool} {next : ℕ} (same : able ≡ named f run) (place : next ≡ after c f) where
+  pub penned : record { at = next; ok = c .ok && able; writing = c .writing } ≡ stepPen c f run
+  unfolding stepPen
+  penned = rw (same, place) refl
+
+  pub roomy : (out : List ℕ) → c .writing && (able && leb next (length out)) ≡ true → length out < 18446744073709551615
+      → (f .name .start + f .name .len ≤ length run) × (c .at + (f .name .len + 19) ≤ length out)
+  unfolding after
+  roomy out t small =
+      let u : able && leb next (length out) ≡ true = and-right (c .writing) t in
+      let n : named f run ≡ true = sym same ∙ and-left able (leb next (length out)) u in
+      let l : next ≤ length out = leb-true _ _ (and-right able u) in
+      (inside f run n, omega (arith, l, place, small))
+
+  pub put : (out : List ℕ) {left : List ℕ} → c .writing && (able && leb next (length out)) ≡ true → left ≡ write out (c .at) (itemBytes rowField (rowFieldGiven f run)) → left ≡ stepOut c f run out
+  unfolding stepOut
+  put out t w =
+      let u : c .writing && (named f run && leb (after c f) (length out)) ≡ true = rw (same, place) at t in
+      rw u w
+
+  pub kept : (out : List ℕ) → c .writing && (able && leb next (length out)) ≡ false → out ≡ stepOut c f run out
+  unfolding stepOut
+  kept out t =
+      let u : c .writing && (named f run && leb (after c f) (length out)) ≡ false = rw (same, place) at t in
+      rw u refl

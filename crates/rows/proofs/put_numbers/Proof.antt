@@ -1,0 +1,28 @@
+-- `rows::put_numbers` meets its contract.
+use borrow.Author.Needs.{needs}
+use Rattle.pen.proofs.Laws.{_then_, nothing}
+use Rattle.rows.proofs.put_numbers.Statement.{statement}
+use Rattle.rows.proofs.put_numbers.Tie as tie
+
+returns : tie.Need-returns
+returns c =
+    let c6 = c .before .before in
+    let c5 = c6 .before .before .before .before in
+    let c4 = c5 .before .before .before .before in
+    let c3 = c4 .before .before .before .before in
+    let c2 = c3 .before .before .before .before in
+    let c1 = c2 .before .before .before .before in
+    c1 .put-word .ensures then c2 .put-half .ensures then c3 .put-word2 .ensures then c4 .put-half2 .ensures then c5 .put-word3 .ensures then c6 .put-half3 .ensures then nothing
+
+pub put-numbers-spec : {M : Type 1} → statement M
+put-numbers-spec =
+    tie.close
+    (tie.spec
+    (λ c κs. search needs)
+    (λ c κs. search needs)
+    (λ c κs. search needs)
+    (λ c κs. search needs)
+    (λ c κs. search needs)
+    (λ c κs. search needs)
+    (λ c. search needs)
+    returns)

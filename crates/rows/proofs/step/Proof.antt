@@ -1,0 +1,50 @@
+-- `rows::step` meets its contract.
+use Prim.Native.Nat.{ℕ, _+_, min}
+use mathlib.Core.Path.{_≡_}
+use native.Mathlib.Omega.{arith}
+use borrow.Author.Needs.{needs}
+use denote.Ref.{now}
+use lib.ListN.{length}
+use Rattle.rows.specs.Passes.{after}
+use Rattle.rows.proofs.Fields.{penned, roomy, put, kept}
+use Rattle.rows.proofs.step.Statement.{statement}
+use Rattle.rows.proofs.step.Tie as tie
+
+-- the place after the field, as it is summed
+place : (c : tie.After-plus2) → c .plus2 .result ≡ after (c .before .before .before .before .before .args .c) (c .before .before .before .before .before .args .f)
+unfolding after
+place c = omega (arith, c .plus2 .ensures, c .before .plus .ensures)
+
+put-field-requires : tie.Need-put-field-requires
+put-field-requires c κs =
+    let p = c .before .before .before .before in
+    let n = p .before .before in
+    let a = n .before .before .before .args in
+    roomy (a .c) (a .f) (now (a .run)) (n .name-able .ensures) (place p) (now (a .out)) (c .before .if1 .taken) (omega arith)
+
+returns : tie.Need-returns
+returns c =
+    let w = c .before .before in
+    let p = w .before .before .before .before .before in
+    let n = p .before .before in
+    let a = n .before .before .before .args in
+    (penned (a .c) (a .f) (now (a .run)) (n .name-able .ensures) (place p), put (a .c) (a .f) (now (a .run)) (n .name-able .ensures) (place p) (now (a .out)) (w .before .before .if1 .taken) (w .put-field .ensures .bytes))
+
+returns-2 : tie.Need-returns-2
+returns-2 c =
+    let p = c .before .before .before in
+    let n = p .before .before in
+    let a = n .before .before .before .args in
+    (penned (a .c) (a .f) (now (a .run)) (n .name-able .ensures) (place p), kept (a .c) (a .f) (now (a .run)) (n .name-able .ensures) (place p) (now (a .out)) (c .if1 .left))
+
+pub step-spec : {M : Type 1} → statement M
+step-spec =
+    tie.close
+    (tie.spec
+    (λ c κs. search needs)
+    (λ c κs. search needs)
+    (λ c κs. search needs)
+    put-field-requires
+    (λ c. search needs)
+    returns
+    returns-2)
