@@ -383,17 +383,19 @@ fn list(seed: u64, folder: &str) {
     let mut run = Run::new();
     let keep = taken.clone();
     run.sample = Some(Box::new(move |mode, buf, answer, seen, consumed, verdict, source| {
-        if buf.len() > 80 {
+        if buf.len() > 80 || mode > 9 {
             return;
         }
         // so many of each sort: source, kind, our answer, the verdict
         let kind = buf.first().map(|b| *b as char).unwrap_or(' ');
         let sort = match answer {
+            Answer::Refused(1, _) => "mode".to_string(),
+            Answer::Refused(2, _) => format!("{source} {mode} {verdict:?}"),
             Answer::Record(k, _, _) => format!("{source} {mode} {} {verdict:?}", k.name),
             Answer::NeedMore => format!("{source} {mode} wait"),
             Answer::Refused(n, _) => format!("{source} {mode} {} {n} {verdict:?}", if mode < 2 { kind } else { ' ' }),
         };
-        let most = if source.starts_with("every") { 1 } else { 3 };
+        let most = if source.starts_with("every") { 1 } else { 5 };
         let mut taken = keep.borrow_mut();
         let lines = taken.entry(sort).or_default();
         if lines.len() >= most {
@@ -417,7 +419,7 @@ fn list(seed: u64, folder: &str) {
     }));
     let mut r = Rng(seed);
     bytes_alone(&mut run);
-    exhaustive(&mut run, &ALPHABET[..4]);
+    exhaustive(&mut run, &ALPHABET[..3]);
     let traffic = corpus(folder);
     real_traffic(&mut run, &mut r, &traffic, 4);
     for _ in 0..20_000 {
