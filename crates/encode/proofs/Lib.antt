@@ -2,6 +2,4 @@ pub mod GivenMeasures
 pub mod Measures
 pub mod Shapes
 pub mod Door
-pub mod Fieldless
-pub mod Measures
 pub mod Rows
