@@ -424,7 +424,9 @@ fn everything(run: &mut Run, count: u64, seed: u64, folder: &str) {
     println!("an alphabet of {letters} bytes: {}", hex(&ALPHABET[..letters]));
     exhaustive(run, &ALPHABET[..letters]);
     boundaries(run, &mut r, if count > 2_000_000 { 8 } else { 1 });
-    real_traffic(run, &mut r, &traffic, 4);
+    real_traffic(run, &mut r, &traffic, if count > 2_000_000 { 4 } else { 16 });
+    // a third at least are random
+    let count = count.max(run.cases + count / 3);
     while run.cases < count {
         random(run, &mut r);
     }
