@@ -1,2 +1,7 @@
+pub mod GivenMeasures
 pub mod Measures
 pub mod Shapes
+pub mod Door
+pub mod Fieldless
+pub mod Measures
+pub mod Rows

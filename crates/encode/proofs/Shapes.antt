@@ -1,7 +1,7 @@
 -- A frame is the same for all kinds of one shape: the record that is read of it does not matter.
 use Prim.Native.Nat.{ℕ}
 use mathlib.Core.List.{List}
-use mathlib.Core.Option.{some}
+use mathlib.Core.Option.{Option, some, none}
 use mathlib.Core.Path.{_≡_, refl, _∙_}
 use Rattle.protocol.specs.declared.Encoded.the-variants as N
 use Rattle.protocol.specs.declared.Encoded.{Encoded}
@@ -27,3 +27,14 @@ asKind {m} {tag} {least} {limit} {body} {any} {c} {out} {left} {r} e m′ messag
     by : (r : Encoded) → writtenBy m (row tag least limit body any) (some c) r out ≡ writtenBy m′ (row tag least limit body message) (some c) r out
     by (N.Done n) = rw is refl
     by (N.Refused number place) = refl
+
+-- in the mode itself, also where the content may be none
+pub asKindGiven : {m : Mode} {tag least limit : ℕ} {body : List Field} {any : Each Slot body → Message} {given : Option (Each Content body)} {out left : List ℕ} {r : Encoded}
+    → Encodes m (row tag least limit body any) given out r left → (message : Each Slot body → Message)
+    → Encodes m (row tag least limit body message) given out r left
+unfolding encodedBy writtenBy
+asKindGiven {m} {tag} {least} {limit} {body} {any} {given} {out} {left} {r} e message = by given e
+  where
+    by : (given : Option (Each Content body)) → Encodes m (row tag least limit body any) given out r left → Encodes m (row tag least limit body message) given out r left
+    by none e = record { answer = e .answer; output = e .output }
+    by (some c) e = asKind e m message refl refl

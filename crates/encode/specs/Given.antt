@@ -10,7 +10,7 @@ use Rattle.protocol.specs.declared.response.GssEncResponse.{GssEncResponse}
 use Rattle.protocol.specs.declared.response.SslResponse.the-variants as Ssl
 use Rattle.protocol.specs.declared.response.SslResponse.{SslResponse}
 use Rattle.protocol.specs.Encode.{items, valuesGiven, errorFieldsGiven, rowFieldsGiven, sslKind, gssKind}
-use Rattle.protocol.specs.Fields.{Field}
+use Rattle.protocol.specs.Fields.{Field, ended}
 use Rattle.protocol.specs.Kinds as K
 use Rattle.protocol.specs.Kinds.{Kind}
 use Rattle.protocol.specs.WellFormed.{Contents}
@@ -44,6 +44,10 @@ aimOf tag target name = some (target, (name, tt))
 
 abbrev pub formatsOf : (tag : ℕ) → ℤ → List ℤ → Given (formatted tag)
 formatsOf tag format formats = some (format, (items formats, tt))
+
+-- an answer of one byte, which is all of it
+abbrev pub lone : ℕ → Kind
+lone byte = record { tag = byte; smallest = 1; limit = 1; body = []; message = λ _. Sync }
 
 -- ---- extendedquery.rs
 
@@ -149,6 +153,13 @@ emptyQueryResponse = some tt
 unfoldable pub readyForQuery : ℕ → Given K.readyForQuery
 unfolding K.readyForQuery
 readyForQuery status = some (status, tt)
+
+-- an error and a notice are of one shape, as the kinds above
+abbrev pub reported : ℕ → Kind
+reported tag = record { tag = tag; smallest = 5; limit = K.large; body = ended K.errorField ∷ []; message = λ _. Sync }
+
+abbrev pub reportOf : (tag : ℕ) → List ℕ → List ℕ → List ℕ → Given (reported tag)
+reportOf tag codes lengths joined = Option·map (λ fs. (fs, tt)) (errorFieldsGiven codes lengths joined)
 
 unfoldable pub errorResponse : List ℕ → List ℕ → List ℕ → Given K.errorResponse
 unfolding K.errorResponse

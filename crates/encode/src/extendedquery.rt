@@ -1,11 +1,13 @@
 // The extended query messages, as in extendedquery.rs.
 ghost use Prim.Native.Nat.{_+_, _*_, _≤_};
+ghost use mathlib.Core.Bool.{true};
 ghost use mathlib.Core.Path.{_≡_};
 ghost use lib.IntN.{ℤ};
 ghost use lib.ListN.{length};
 ghost use Rattle.protocol.specs.Bytes.{bitsOf};
-ghost use Rattle.protocol.specs.Encode.{Encodes};
+ghost use Rattle.protocol.specs.Encode.{Encodes, valuesGiven};
 ghost use Rattle.protocol.specs.Kinds as K;
+ghost use Rattle.pen.specs.Given.{isSome};
 ghost use Rattle.pen.specs.Writing.{Framed};
 ghost use Rattle.encode.specs.Given as G;
 use crate::bare;
@@ -14,12 +16,16 @@ use pen::no_zero;
 use pen::plus;
 use pen::plus4;
 use pen::put_byte;
+use pen::put_formats;
 use pen::put_head;
 use pen::put_oids;
 use pen::put_text;
 use pen::put_word;
+use pen::values::put_values;
+use pen::values::values_given;
 use pen::verdict;
 use protocol::Encoded;
+use protocol::extendedquery::MESSAGE_TYPE_BYTE_BIND;
 use protocol::extendedquery::MESSAGE_TYPE_BYTE_BIND_COMPLETE;
 use protocol::extendedquery::MESSAGE_TYPE_BYTE_CLOSE;
 use protocol::extendedquery::MESSAGE_TYPE_BYTE_CLOSE_COMPLETE;
@@ -54,6 +60,66 @@ pub fn parse(name: &[u8], query: &[u8], type_oids: &[u32], out: &mut [u8]) -> En
         return r;
     };
     write_parse(name, query, type_oids, n, out);
+    r
+}
+
+fn write_bind(
+    portal_name: &[u8],
+    statement_name: &[u8],
+    parameter_format_codes: &[i16],
+    lengths: &[i32],
+    joined: &[u8],
+    result_column_format_codes: &[i16],
+    n: usize,
+    out: &mut [u8],
+)
+    requires { ⌜ (n ≡ length (now «portal_name») + length (now «statement_name») + 2 * length (now «parameter_format_codes») + 4 * length (now lengths) + length (now joined) + 2 * length (now «result_column_format_codes») + 13) × (n ≤ length (now out)) × (n ≤ 1048577) × (length (now «parameter_format_codes») ≤ 32767) × (length (now lengths) ≤ 32767) × (length (now «result_column_format_codes») ≤ 32767) × (isSome (valuesGiven (now lengths) (now joined)) ≡ true) ⌝ }
+    ensures { λ r. ⌜ Framed K.typed K.bind (G.bind (now («portal_name» .entry)) (now («statement_name» .entry)) (now («parameter_format_codes» .entry)) (now (lengths .entry)) (now (joined .entry)) (now («result_column_format_codes» .entry))) (now (out .entry)) (now (out .exit)) ⌝ }
+{
+    let at = put_head(out, MESSAGE_TYPE_BYTE_BIND, n);
+    let at = put_text(out, at, portal_name);
+    let at = put_text(out, at, statement_name);
+    let at = put_formats(out, at, parameter_format_codes);
+    let at = put_values(out, at, lengths, joined);
+    put_formats(out, at, result_column_format_codes);
+}
+
+pub fn bind(
+    portal_name: &[u8],
+    statement_name: &[u8],
+    parameter_format_codes: &[i16],
+    lengths: &[i32],
+    joined: &[u8],
+    result_column_format_codes: &[i16],
+    out: &mut [u8],
+) -> Encoded
+    ensures { λ r. ⌜ Encodes K.frontend K.bind (G.bind (now («portal_name» .entry)) (now («statement_name» .entry)) (now («parameter_format_codes» .entry)) (now (lengths .entry)) (now (joined .entry)) (now («result_column_format_codes» .entry))) (now (out .entry)) r (now (out .exit)) ⌝ }
+{
+    let few = (parameter_format_codes.len() <= 32767)
+        & ((lengths.len() <= 32767) & (result_column_format_codes.len() <= 32767));
+    let able = values_given(lengths, joined)
+        & (no_zero(portal_name) & (no_zero(statement_name) & few));
+    let lists = plus4(
+        parameter_format_codes.len() * 2,
+        result_column_format_codes.len() * 2,
+        lengths.len() * 4,
+        joined.len(),
+    );
+    let size = plus4(portal_name.len(), statement_name.len(), lists, 12);
+    let r = verdict(able, LARGE, size, out.len());
+    let Encoded::Done(n) = r else {
+        return r;
+    };
+    write_bind(
+        portal_name,
+        statement_name,
+        parameter_format_codes,
+        lengths,
+        joined,
+        result_column_format_codes,
+        n,
+        out,
+    );
     r
 }
 

@@ -1,9 +1,8 @@
 -- Reading a well-formed frame field after field gives its content in order and ends at the frame's end.
 use Prim.Native.Nat.{ℕ, zero, suc, _+_}
-use mathlib.Core.Bool.{true, _&&_}
+use mathlib.Core.Bool.{true}
 use mathlib.Core.List.{List, [], _∷_, _++_, append-assoc, append-nil}
-use mathlib.Core.Option.{some, none}
-use mathlib.Core.Path.{_≡_, refl, ap, sym, _∙_}
+use mathlib.Core.Path.{_≡_, refl}
 use native.Mathlib.Omega.{arith}
 use borrow.Author.Tests.{leb-true}
 use lib.Dec.{T, leb}
@@ -11,7 +10,7 @@ use lib.ListN.{length, length-append}
 use Rattle.protocol.specs.declared.Rules.{Rules}
 use Rattle.protocol.specs.Bytes.{be, bitsOf}
 use Rattle.protocol.specs.Each.{Each, bytesOfEach, ableEach, HoldsEach}
-use Rattle.protocol.specs.Fields.{Atom, unsigned, signed, oneOf, text, value, rest, AtomContent, AtomInRange, atomAble, valueBytes, atomBytes, valueSlot, atomSlot, Item, ItemContent, ItemInRange, itemAble, itemBytes, itemLeast, itemsBytes, ItemsInRange, itemsAble, noneEnds, most, Field, one, counted, ended, Content, InRange, able, bytes}
+use Rattle.protocol.specs.Fields.{Atom, unsigned, signed, oneOf, text, value, rest, AtomContent, AtomInRange, atomAble, atomBytes, atomSlot, Item, ItemContent, ItemInRange, itemAble, itemBytes, itemLeast, itemsBytes, ItemsInRange, itemsAble, Field, one, counted, ended, Content, InRange, able, bytes}
 use Rattle.protocol.specs.WellFormed.{bodyBytes, header, frame}
 use Rattle.protocol.proofs.Find.{every}
 use Rattle.laws.specs.ReaderStatements.{theReader, Step, AtomInOrder, AtomsInOrder, ItemsInOrder, FieldInOrder, FieldsInOrder, InOrder}

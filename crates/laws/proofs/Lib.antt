@@ -20,3 +20,4 @@ pub mod Headers
 pub mod MoreBytes
 pub mod NeedMore
 pub mod InOrder
+pub mod RowEntries

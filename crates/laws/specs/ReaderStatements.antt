@@ -1,10 +1,14 @@
 -- What is proved of reading a frame field after field, as a host does with a frame reader. A reader's answers are functions of the frame's bytes and of a
 -- place; the theorem holds of `theReader`, to which the reader's functions are proved equal.
-use Prim.Native.Nat.{ℕ, _+_}
+use Prim.Native.Nat.{ℕ, _+_, _≤_, _<_}
 use mathlib.Core.List.{List, [], _∷_}
-use mathlib.Core.Option.{Option}
+use mathlib.Core.Option.{Option, some}
 use mathlib.Core.Path.{_≡_}
+use lib.IntN.{ℤ, pos, negsuc}
 use lib.ListN.{length}
+use Rattle.protocol.specs.declared.Element.the-variants as E
+use Rattle.protocol.specs.declared.Element.{Element}
+use Rattle.protocol.specs.declared.List.{List as ListSlot}
 use Rattle.protocol.specs.declared.Rules.{Rules}
 use Rattle.protocol.specs.declared.Span.{Span}
 use Rattle.protocol.specs.Bytes.{bitsOf}
@@ -13,7 +17,11 @@ use Rattle.protocol.specs.Fields.{Atom, unsigned, signed, oneOf, text, value, r
 use Rattle.protocol.specs.Kinds.{Kind, Mode}
 use Rattle.protocol.specs.Reading.{Read, got, readNumber, readText, readValue}
 use Rattle.protocol.specs.WellFormed.{Contents, WellFormed, bodyStart, frame}
+use Rattle.reader.specs.declared.row.Row.the-variants as R
+use Rattle.reader.specs.Row.{ReadsRow}
+use Rattle.laws.specs.Arguments.{nth}
 use Rattle.laws.specs.Places.{AtomPlaced}
+use Rattle.laws.specs.Statements.{ElementCall}
 
 -- a number of 1, 2 or 4 bytes, a string and a value, each at a place of a frame
 pub record Reader : Type 0 where
@@ -61,3 +69,21 @@ abbrev pub InOrder : Reader → Type 0
 InOrder reader =
     (rules : Rules) (m : Mode) (k : Kind) (c : Contents k) → WellFormed rules m k c
     → FieldsInOrder reader (frame (m .envelope) k c) (k .body) (bodyStart (m .envelope)) c
+
+-- ---- a row at once
+
+-- the element that an entry tells
+abbrev pub elementAs : ℕ → ℤ → Element
+elementAs start (pos len) = E.Value (record { start = start; len = len })
+elementAs start (negsuc n) = E.Null
+
+pub record RowIs (call : ElementCall) (s starts₀ starts₁ : List ℕ) (lengths₀ lengths₁ : List ℤ) (count : ℕ) : Type 0 where
+  pub entry : (i : ℕ) → i < count → (start : ℕ) × (length : ℤ) × (nth starts₁ i ≡ some start) × (nth lengths₁ i ≡ some length) × (call (record { mode = 1 }) s 0 i ≡ elementAs start length)
+  pub starts : (i : ℕ) → count ≤ i → nth starts₁ i ≡ nth starts₀ i
+  pub lengths : (i : ℕ) → count ≤ i → nth lengths₁ i ≡ nth lengths₀ i
+
+-- Entry i of the two lists that a row was read into is element i, for every i below the count; later entries are as they were.
+abbrev pub RowEntries : ElementCall → Type 0
+RowEntries call =
+    (s starts₀ starts₁ : List ℕ) (lengths₀ lengths₁ : List ℤ) (l : ListSlot) (n : ℕ) → ReadsRow s starts₀ lengths₀ (R.Is l n) starts₁ lengths₁
+    → RowIs call s starts₀ starts₁ lengths₀ lengths₁ (l .count)

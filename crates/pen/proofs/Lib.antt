@@ -1,4 +1,5 @@
 pub mod Encoding
+pub mod ErrorLaws
 pub mod GivenLaws
 pub mod Laws
 pub mod Lists

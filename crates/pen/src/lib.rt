@@ -1,5 +1,6 @@
 // Writers of the fields of a frame: each writes at a place of the output and answers the place after it. And what comes before any
 // write: sizes that cannot wrap, the scan for zero bytes, and the answer.
+pub mod errors;
 pub mod values;
 
 ghost use Prim.Native.Nat.{_+_, _-_, _*_, _≤_, min};

@@ -13,7 +13,7 @@ use Rattle.pen.proofs.Encoding.{Judged, judged, roomOf, refused, finished}
 use Rattle.pen.proofs.GivenLaws.{and-left}
 use Rattle.pen.proofs.Lists.{and-right}
 use Rattle.encode.specs.Given as G
-use Rattle.encode.proofs.Measures as M
+use Rattle.encode.proofs.GivenMeasures as M
 use Rattle.encode.proofs.data.data_row.Statement.{statement}
 use Rattle.encode.proofs.data.data_row.Tie as tie
 

@@ -1,0 +1,115 @@
+-- From the two passes over a row's fields to the promise of `row_description`.
+use Prim.Native.Nat.{ℕ, _+_, _-_, _≤_, _<_, min}
+use mathlib.Core.Bool.{Bool, true, false, cond, _&&_}
+use mathlib.Core.List.{List, [], _∷_}
+use mathlib.Core.Option.{Option, some, none, Option·map}
+use mathlib.Core.Path.{_≡_, refl, ap, _∙_, sym, subst}
+use native.Mathlib.Omega.{arith}
+use lib.Dec.{leb}
+use lib.ListN.{length, length-append}
+use Rattle.protocol.specs.declared.Encoded.the-variants as N
+use Rattle.protocol.specs.declared.Encoded.{Encoded}
+use Rattle.protocol.specs.declared.Rules.{Rules}
+use Rattle.protocol.specs.declared.data.FieldDescription.{FieldDescription}
+use Rattle.protocol.specs.Bytes.{be}
+use Rattle.protocol.specs.Each.{ableEach, bytesOfEach}
+use Rattle.protocol.specs.Encode.{Encodes, rowFieldsGiven}
+use Rattle.protocol.specs.Fields.{able, bytes, itemsAble, itemsBytes}
+use Rattle.protocol.specs.Kinds as K
+use Rattle.protocol.specs.WellFormed.{Contents, bodyBytes, header}
+use Rattle.pen.specs.Writing.{write, Wrote, Framed}
+use Rattle.pen.proofs.Encoding.{Measured, Judged, ableOf, framed, judged, roomOf, refused, finished}
+use Rattle.pen.proofs.Laws.{_then_, nothing}
+use Rattle.pen.proofs.Lists.{and-true, and-right}
+use Rattle.rows.specs.declared.Pen.{Pen}
+use Rattle.rows.specs.Passes.{allPen, allOut, answered, begun, blank, writer}
+use Rattle.rows.proofs.Fields.{and-left}
+use Rattle.rows.proofs.Whole.{rows, allNamed, allInside, total, given-is, length-rows, able-rows, length-rows-bytes, pen-ok, pen-at, length-write, nothing-written, all-written}
+use Rattle.encode.specs.Given as G
+
+and-false : (a : Bool) → a && false ≡ false
+and-false true = refl
+and-false false = refl
+
+module _ (fs : List FieldDescription) (run : List ℕ) where
+  -- the content of the arguments, by whether every name stands in the run
+  content : (b : Bool) → Option (Contents K.rowDescription)
+  unfolding K.rowDescription
+  content b = Option·map (λ xs. (xs, tt)) (cond b (some (rows fs run)) none)
+
+  given-content : G.rowDescription fs run ≡ content (allInside fs run)
+  unfolding K.rowDescription G.rowDescription content
+  given-content = rw (given-is fs run) refl
+
+  -- 10 exactly where a name cannot be written or the fields are too many
+  able-content : (b : Bool) → allInside fs run ≡ b → ableOf K.backend K.rowDescription (content b) ≡ (leb (length fs) 32767 && allNamed fs run)
+  unfolding K.backend K.rowDescription content ableOf ableEach able
+  able-content true e =
+      let n : itemsAble (record { mode = 1 }) K.rowField (rows fs run) ≡ allNamed fs run =
+      ap (λ (b : Bool). b && itemsAble (record { mode = 1 }) K.rowField (rows fs run)) (sym e) ∙ able-rows (record { mode = 1 }) fs run in
+      rw (length-rows fs run, n) (and-true _)
+  able-content false e =
+      let n : allNamed fs run ≡ false = sym (able-rows (record { mode = 1 }) fs run) ∙ ap (λ (b : Bool). b && itemsAble (record { mode = 1 }) K.rowField (rows fs run)) e in
+      rw n (sym (and-false (leb (length fs) 32767)))
+
+  size-content : (b : Bool) → allInside fs run ≡ b → (c : Contents K.rowDescription) → content b ≡ some c → length (bodyBytes K.rowDescription c) ≡ 2 + total fs
+  unfolding K.rowDescription content bodyBytes bytesOfEach bytes be
+  size-content true e c is =
+      let s : (rows fs run, tt) ≡ c = cc in
+      rw (← s) (omega (arith, length-append (itemsBytes K.rowField (rows fs run)) [], length-rows-bytes fs run e))
+  size-content false e c is = let z : _≡_ {A = ℕ} 0 1 = cc in absurd (omega arith)
+
+  pub measures : Measured K.backend K.rowDescription (G.rowDescription fs run) 1048576 (leb (length fs) 32767 && allNamed fs run) (2 + total fs)
+  unfolding K.backend K.rowDescription
+  measures = record {
+    envelope = refl;
+    limit = refl;
+    able = ap (ableOf K.backend K.rowDescription) given-content ∙ able-content (allInside fs run) refl;
+    size = λ c is. size-content (allInside fs run) refl c (sym given-content ∙ is);
+  }
+
+  module _ (out : List ℕ) where
+    says : (r : Encoded) → r ≡ answered (allPen fs run blank) (length fs) (length out) → Judged K.backend K.rowDescription (G.rowDescription fs run) (length out) r
+    says r v =
+        judged measures (omega arith) (ap (λ (b : Bool). leb (length fs) 32767 && b) (pen-ok fs run blank)) (λ _. omega (arith, pen-at fs run blank (omega arith))) v
+
+    -- what the pass that writes leaves of a frame of n bytes
+    written : (n : ℕ) → n ≡ 7 + total fs → n ≤ length out → length out < 18446744073709551615 → allNamed fs run ≡ true
+        → Framed K.typed K.rowDescription (G.rowDescription fs run) out (allOut fs run (begun (N.Done n) (length fs) out) (writer (N.Done n)))
+    unfolding K.rowDescription G.rowDescription content bodyBytes bytesOfEach bytes begun writer header be
+    written n whole fits small named =
+        let head = header K.typed (K.rowDescription .tag) (n - 5) in
+        let mid = write out 0 head in
+        let left = begun (N.Done n) (length fs) out in
+        let e : allInside fs run ≡ true = and-left (allInside fs run) (itemsAble (record { mode = 1 }) K.rowField (rows fs run)) (able-rows (record { mode = 1 }) fs run ∙ named) in
+        let g : G.rowDescription fs run ≡ content true = given-content ∙ ap content e in
+        let long : length left ≡ length out = length-write mid 5 (be 2 (length fs)) ∙ length-write out 0 head in
+        let h : Wrote out 0 head 5 mid 5 = record { bytes = refl; size = refl; place = refl } in
+        let k : Wrote mid 5 (be 2 (length (rows fs run))) 2 left 7 = rw (length-rows fs run) (record { bytes = refl; size = refl; place = refl }) in
+        let i : Wrote left 7 (itemsBytes K.rowField (rows fs run)) (total fs) (allOut fs run left (writer (N.Done n))) (7 + total fs) = record {
+          bytes = all-written fs run left (writer (N.Done n)) refl named (omega (arith, long)) (omega (arith, long));
+          size = length-rows-bytes fs run e;
+          place = refl;
+        } in
+        rw g (framed K.rowDescription (rows fs run, tt) h ((k then i) then nothing) (omega arith))
+
+    pub encoded : (r : Encoded) → length out < 18446744073709551615 → r ≡ answered (allPen fs run blank) (length fs) (length out)
+        → Encodes K.backend K.rowDescription (G.rowDescription fs run) out r (allOut fs run (begun r (length fs) out) (writer r))
+    unfolding begun writer
+    encoded (N.Refused number place) small v =
+        rw (nothing-written fs run out (writer (N.Refused number place)) refl) (refused (says (N.Refused number place) v) refl)
+    encoded (N.Done n) small v =
+        let j = says (N.Done n) v in
+        let h = roomOf measures j refl in
+        finished measures j refl (written n (omega (arith, h .whole)) (h .fits) small (and-right (leb (length fs) 32767) (h .able)))
+
+    -- the calls of the encoder: c and a are what the pass that measures gives and leaves, r and b those of the answer, w and l of the pass
+    -- that writes
+    pub joined : {c w : Pen} {r : Encoded} {a b l : List ℕ} → length out < 18446744073709551615
+        → c ≡ allPen fs run blank → a ≡ allOut fs run out blank → r ≡ answered c (length fs) (length a) → b ≡ begun r (length fs) a
+        → w ≡ writer r → l ≡ allOut fs run b w → Encodes K.backend K.rowDescription (G.rowDescription fs run) out r l
+    joined {c} {w} {r} {a} {b} {l} small measured kept answer head pen rest =
+        let same : a ≡ out = kept ∙ nothing-written fs run out blank refl in
+        let v : r ≡ answered (allPen fs run blank) (length fs) (length out) = answer ∙ (λ j. answered (measured j) (length fs) (length (same j))) in
+        let e : l ≡ allOut fs run (begun r (length fs) out) (writer r) = rest ∙ (λ j. allOut fs run (head j) (pen j)) ∙ ap (λ (x : List ℕ). allOut fs run (begun r (length fs) x) (writer r)) same in
+        rw e (encoded r small v)
