@@ -158,3 +158,38 @@ fn body(mode: u8, buf: &[u8], number: u8, place: usize, seen: &Seen, consumed: u
         _ => Unexplained("a refusal of no known number"),
     }
 }
+
+// ---- encoding
+
+/// The entries of encoding.
+pub const ENCODE_ENTRIES: [&str; 5] = ["encode-limits", "encode-zero-in-text", "encode-target", "encode-zero-code", "encode-count"];
+
+/// What the model and the Rust write of one content.
+pub fn judge_encoded(c: &Content, model: &Result<Vec<u8>, u8>, seen: &Result<Vec<u8>, Seen>) -> Verdict {
+    match model {
+        Ok(frame) => when(seen.as_ref() == Ok(frame), Equal, "other bytes written"),
+        Err(4) => match seen {
+            Err(e) => when(refused(e, "MessageTooLarge"), BothRefuse, "an encoder's refusal"),
+            Ok(_) => Under("encode-limits"),
+        },
+        Err(10) => {
+            let wrote = seen.is_ok() || matches!(seen, Err(e) if refused(e, "MessageTooLarge"));
+            when(wrote, Under(unwritable(c)), "a message that cannot be written")
+        }
+        Err(_) => Unexplained("an encoder's refusal of no known number"),
+    }
+}
+
+/// Why a content cannot be written: document 01's cases of refusal 10 that a content can have.
+fn unwritable(c: &Content) -> &'static str {
+    for f in &c.fields {
+        match f {
+            Field::Text(t) if t.contains(&0) => return "encode-zero-in-text",
+            Field::Rows(rows) if rows.iter().any(|r| r.name.contains(&0)) => return "encode-zero-in-text",
+            Field::Errors(es) if es.iter().any(|(_, t)| t.contains(&0)) => return "encode-zero-in-text",
+            Field::Errors(es) if es.iter().any(|(code, _)| *code == 0) => return "encode-zero-code",
+            _ => {}
+        }
+    }
+    if matches!(c.kind, 3 | 4) { "encode-target" } else { "encode-count" }
+}

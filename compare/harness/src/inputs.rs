@@ -184,3 +184,29 @@ pub fn with_length(mode: u8, f: &[u8], by: i32) -> Vec<u8> {
     f[at..at + 4].copy_from_slice(&n.to_be_bytes());
     f
 }
+
+/// A content that cannot be written, where the kind has such a thing: a zero in a text, a zero code, another target, a list too long.
+pub fn spoiled(r: &mut Rng, c: &Content) -> Content {
+    let mut c = c.clone();
+    let n = c.fields.len();
+    if n == 0 {
+        return c;
+    }
+    let i = r.below(n);
+    let long = r.one_in(64);
+    match &mut c.fields[i] {
+        Field::Text(t) => {
+            let at = r.below(t.len() + 1);
+            t.insert(at, 0);
+        }
+        Field::Num(b) if matches!(c.kind, 3 | 4) => *b = r.below(256) as i64,
+        Field::Rows(rows) if !rows.is_empty() => rows[0].name.push(0),
+        Field::Errors(es) if !es.is_empty() && r.one_in(2) => es[0].0 = 0,
+        Field::Errors(es) if !es.is_empty() => es[0].1.insert(0, 0),
+        Field::Oids(o) if long => o.resize(32_768, 1),
+        Field::Formats(f) if long => f.resize(32_768, 1),
+        Field::Values(v) if long => v.resize(32_768, None),
+        _ => {}
+    }
+    c
+}

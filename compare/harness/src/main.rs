@@ -2,6 +2,7 @@
 //!
 //!     compare COUNT SEED CORPUS       inputs of every sort, until COUNT cases are made
 //!     compare list SEED CORPUS        the fixed list, on standard output
+//!     compare show MODE HEX ..        what each answers of one input
 
 mod content;
 mod differences;
@@ -27,7 +28,10 @@ struct Run {
     panics: u64,
     failures: u64,
     elements: u64,
+    encoded: u64,
     sources: BTreeMap<&'static str, u64>,
+    /// Encoding: how many contents were equal, or under which entry.
+    written: BTreeMap<&'static str, u64>,
     source: &'static str,
     /// Where the fixed list is made: every case is handed to it too.
     sample: Option<Box<dyn FnMut(u8, &[u8], &Answer, &Seen, usize, &Verdict, &'static str)>>,
@@ -53,7 +57,9 @@ impl Run {
             panics: 0,
             failures: 0,
             elements: 0,
+            encoded: 0,
             sources: BTreeMap::new(),
+            written: BTreeMap::new(),
             source: "",
             sample: None,
         }
@@ -128,12 +134,47 @@ impl Run {
                 if got != expected {
                     self.fail("another element", mode, buf, format!("list {list} number {number}: ours {got:?}\n  model {expected:?}"));
                 }
-                let stand_in = b"stand-in";
-                let expected = model::value_or(mode, buf, list, number, stand_in);
-                let got = ours::value_or(mode, buf, list, number, stand_in);
-                if got.as_ptr() != expected.as_ptr() && !expected.is_empty() || got.len() != expected.len() {
-                    self.fail("another value", mode, buf, format!("list {list} number {number}: ours {got:?}\n  model {expected:?}"));
+            }
+        }
+    }
+
+    /// One content: what the model of document 01, the Rust and the library write of it.
+    fn encode(&mut self, c: &Content) {
+        self.encoded += 1;
+        let g = model::given(c);
+        let expected = model::encode(&g, usize::MAX);
+        let seen = oracle::encode(c);
+        if let Some(verdict) = seen.as_ref().map(|s| differences::judge_encoded(c, &expected, s)) {
+            match verdict {
+                Verdict::Equal | Verdict::BothRefuse => *self.written.entry("equal").or_default() += 1,
+                Verdict::Under(e) => *self.written.entry(e).or_default() += 1,
+                Verdict::Unexplained(what) => {
+                    let written = |r: &Result<Vec<u8>, u8>| format!("{:?}", r.as_ref().map(|f| hex(f)));
+                    self.fail(what, 0, &[], format!("{c:?}\n  model {}\n  the Rust {seen:?}", written(&expected)))
                 }
+            }
+        } else {
+            *self.written.entry("text").or_default() += 1;
+        }
+        #[cfg(feature = "encoding")]
+        self.encode_ours(&g);
+    }
+
+    /// The library, with the output just long enough, one byte short, empty, and longer: every byte written, and the bytes after them.
+    #[cfg(feature = "encoding")]
+    fn encode_ours(&mut self, g: &model::Given) {
+        let full = model::encode(g, usize::MAX).map(|f| f.len()).unwrap_or(64);
+        for room in [full, full.saturating_sub(1), 0, full + 9] {
+            let expected = model::encode(g, room);
+            let mut out: Vec<u8> = (0..room).map(|i| (i % 251) as u8 ^ 0x5a).collect();
+            let before = out.clone();
+            let Some(answer) = ours::encode(g, &mut out) else { return };
+            let (row, left) = match &expected {
+                Ok(f) => ([0, 0, 0, f.len()], [&f[..], &before[f.len()..]].concat()),
+                Err(n) => ([2, *n as usize, 0, 0], before),
+            };
+            if answer != row || out != left {
+                self.fail("written otherwise", 0, &out, format!("{g:?}\n  room {room}: ours {answer:?}, model {row:?}"));
             }
         }
     }
@@ -150,6 +191,11 @@ impl Run {
         if self.elements > 0 {
             println!("elements: {} calls", self.elements);
         }
+        println!("encoding: {} contents", self.encoded);
+        for (e, n) in &self.written {
+            println!("{n:>12}  {e}");
+        }
+        println!("decoding:");
         println!("{:>12}  equal", self.equal);
         println!("{:>12}  both refuse, for the same reason", self.both_refuse);
         for e in ENTRIES {
@@ -258,7 +304,10 @@ fn around(run: &mut Run, r: &mut Rng, mode: u8, f: &[u8], next: &[u8], all: bool
 
 fn random(run: &mut Run, r: &mut Rng) {
     let kind = r.pick(&KINDS);
-    let f = inputs::frame(&inputs::content(r, kind));
+    let c = inputs::content(r, kind);
+    run.encode(&c);
+    let f = inputs::frame(&c);
+    run.encode(&inputs::spoiled(r, &c));
     let other = r.pick(&KINDS);
     let next = inputs::frame(&inputs::content(r, other));
     let all = f.len() <= 40 && r.one_in(4);
@@ -281,6 +330,10 @@ fn boundaries(run: &mut Run, r: &mut Rng, turns: usize) {
             for target in [k.limit - 1, k.limit] {
                 if let Some(c) = inputs::stretched(&c, (target - small) as usize) {
                     // lists step by their element's size and may pass the limit's last bytes
+                    run.encode(&c);
+                    if let Some(longer) = inputs::stretched(&c, 1) {
+                        run.encode(&longer);
+                    }
                     let f = inputs::frame(&c);
                     run.decode(k.mode, &f);
                     run.decode(k.mode, &f[..f.len() - 1]);
@@ -371,7 +424,9 @@ fn everything(run: &mut Run, count: u64, seed: u64, folder: &str) {
     println!("an alphabet of {letters} bytes: {}", hex(&ALPHABET[..letters]));
     exhaustive(run, &ALPHABET[..letters]);
     boundaries(run, &mut r, if count > 2_000_000 { 8 } else { 1 });
-    real_traffic(run, &mut r, &traffic, 4);
+    real_traffic(run, &mut r, &traffic, if count > 2_000_000 { 4 } else { 16 });
+    // a third at least are random
+    let count = count.max(run.cases + count / 3);
     while run.cases < count {
         random(run, &mut r);
     }
@@ -453,6 +508,15 @@ fn main() {
         }
     }));
     let args: Vec<String> = std::env::args().collect();
+    if args[1] == "show" {
+        let mode = args[2].parse().expect("a mode");
+        let buf: Vec<u8> = args[3..].iter().map(|h| u8::from_str_radix(h, 16).expect("a byte")).collect();
+        let expected = model::decode(mode, &buf);
+        let (seen, consumed) = oracle::decode(mode, &buf);
+        println!("ours {:?}\nmodel {expected:?}\nthe Rust {seen:?}, {consumed} consumed", ours::decode(mode, &buf));
+        println!("{:?}", judge(mode, &buf, &expected, &seen, consumed));
+        return;
+    }
     let (what, seed, folder) = (&args[1], args[2].parse().expect("a seed"), &args[3]);
     if what == "list" {
         return list(seed, folder);

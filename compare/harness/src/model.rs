@@ -411,15 +411,6 @@ pub fn element(mode: u8, buf: &[u8], list: usize, number: usize) -> Element {
     frame.element(*part).unwrap()
 }
 
-/// The second form: the value's own bytes, or the stand-in where it is NULL.
-pub fn value_or<'a>(mode: u8, buf: &'a [u8], list: usize, number: usize, stand_in: &'a [u8]) -> &'a [u8] {
-    match element(mode, buf, list, number) {
-        Element::Value(s, n) => &buf[s..s + n],
-        Element::Null => stand_in,
-        _ => &stand_in[..0],
-    }
-}
-
 // ---- what a record means
 
 pub fn content(answer: &Answer, buf: &[u8]) -> Option<Content> {
@@ -483,7 +474,7 @@ pub fn list_content(part: Part, elements: &[Element], buf: &[u8]) -> Field {
     }
 }
 
-// ---- the numbers at the boundary (docs/BOUNDARY.md): status, refusal number, place, consumed, kind, fields
+// ---- the numbers at the boundary (crates/host/specs/LaidOut.antt): status, refusal number, place, consumed, kind, fields
 
 pub const ROW: usize = 16;
 pub type Row = [usize; ROW];

@@ -180,3 +180,124 @@ fn cancel(m: &CancelRequest) -> Content {
     let key = m.secret_key.as_i32().map(|k| vec![num(m.pid), num(k)]);
     Content { kind: 28, fields: key.unwrap_or_default() }
 }
+
+// ---- encoding
+
+/// What the Rust writes of a content; None where it has no form for it (text that is no UTF-8).
+pub fn encode(c: &Content) -> Option<Result<Vec<u8>, Seen>> {
+    let m = message(c)?;
+    let mut out = BytesMut::new();
+    let done = caught(|| match &m {
+        Either::Front(m) => m.encode(&mut out),
+        Either::Back(m) => m.encode(&mut out),
+    });
+    Some(match done {
+        None => Err(Seen::Panicked),
+        Some(Err(e)) => Err(Seen::Refused(name(&e))),
+        Some(Ok(())) => Ok(out.to_vec()),
+    })
+}
+
+enum Either {
+    Front(Front),
+    Back(Back),
+}
+
+fn utf8(f: &Field) -> Option<String> {
+    let Field::Text(t) = f else { panic!("{f:?}") };
+    String::from_utf8(t.clone()).ok()
+}
+
+/// An empty name is the Rust's None.
+fn named(f: &Field) -> Option<Option<String>> {
+    let s = utf8(f)?;
+    Some(if s.is_empty() { None } else { Some(s) })
+}
+
+fn int(f: &Field) -> i64 {
+    let Field::Num(n) = f else { panic!("{f:?}") };
+    *n
+}
+
+fn formats(f: &Field) -> Vec<i16> {
+    let Field::Formats(v) = f else { panic!("{f:?}") };
+    v.clone()
+}
+
+fn oids(f: &Field) -> Vec<u32> {
+    let Field::Oids(v) = f else { panic!("{f:?}") };
+    v.clone()
+}
+
+fn values(f: &Field) -> &[Option<Vec<u8>>] {
+    let Field::Values(v) = f else { panic!("{f:?}") };
+    v
+}
+
+fn error_fields(f: &Field) -> Option<Vec<(u8, String)>> {
+    let Field::Errors(v) = f else { panic!("{f:?}") };
+    v.iter().map(|(c, s)| Some((*c, String::from_utf8(s.clone()).ok()?))).collect()
+}
+
+fn message(c: &Content) -> Option<Either> {
+    use pgwire::messages::{cancel, copy, data, extendedquery as eq, response, startup::SecretKey};
+    let f = &c.fields;
+    let front = |m| Some(Either::Front(m));
+    let back = |m| Some(Either::Back(m));
+    match c.kind {
+        1 => front(Front::Parse(eq::Parse::new(named(&f[0])?, utf8(&f[1])?, oids(&f[2])))),
+        2 => front(Front::Bind(eq::Bind::new(
+            named(&f[0])?,
+            named(&f[1])?,
+            formats(&f[2]),
+            values(&f[3]).iter().map(|v| v.clone().map(bytes::Bytes::from)).collect(),
+            formats(&f[4]),
+        ))),
+        3 => front(Front::Close(eq::Close::new(int(&f[0]) as u8, named(&f[1])?))),
+        4 => front(Front::Describe(eq::Describe::new(int(&f[0]) as u8, named(&f[1])?))),
+        5 => front(Front::Execute(eq::Execute::new(named(&f[0])?, int(&f[1]) as i32))),
+        6 => front(Front::Flush(eq::Flush::new())),
+        7 => front(Front::Sync(eq::Sync::new())),
+        8 => front(Front::CopyDone(copy::CopyDone::new())),
+        9 => {
+            let Field::Bytes(b) = &f[0] else { panic!() };
+            front(Front::CopyData(copy::CopyData::new(bytes::Bytes::from(b.clone()))))
+        }
+        10 => front(Front::CopyFail(copy::CopyFail::new(utf8(&f[0])?))),
+        11 => back(Back::ParseComplete(eq::ParseComplete::new())),
+        12 => back(Back::BindComplete(eq::BindComplete::new())),
+        13 => back(Back::CloseComplete(eq::CloseComplete::new())),
+        14 => back(Back::PortalSuspended(eq::PortalSuspended::new())),
+        15 => back(Back::NoData(data::NoData::new())),
+        16 => back(Back::EmptyQueryResponse(response::EmptyQueryResponse::new())),
+        17 => {
+            let Field::Rows(rows) = &f[0] else { panic!() };
+            let fields: Option<Vec<_>> = rows
+                .iter()
+                .map(|r| {
+                    let name = String::from_utf8(r.name.clone()).ok()?;
+                    Some(data::FieldDescription::new(name, r.table_id, r.column_id, r.type_id, r.type_size, r.type_modifier, r.format_code))
+                })
+                .collect();
+            back(Back::RowDescription(data::RowDescription::new(fields?)))
+        }
+        18 => back(Back::ParameterDescription(data::ParameterDescription::new(oids(&f[0])))),
+        // the Rust's form: the joined bytes, and the count beside them
+        19 => {
+            let joined = crate::content::joined(values(&f[0]));
+            back(Back::DataRow(data::DataRow::new(BytesMut::from(&joined[..]), values(&f[0]).len() as i16)))
+        }
+        20 => back(Back::CommandComplete(response::CommandComplete::new(utf8(&f[0])?))),
+        21 => back(Back::ReadyForQuery(response::ReadyForQuery::new(response::TransactionStatus::try_from(int(&f[0]) as u8).ok()?))),
+        22 => back(Back::ErrorResponse(response::ErrorResponse::new(error_fields(&f[0])?))),
+        23 => back(Back::NoticeResponse(response::NoticeResponse::new(error_fields(&f[0])?))),
+        24 => back(Back::CopyInResponse(copy::CopyInResponse::new(int(&f[0]) as i8, formats(&f[1]).len() as i16, formats(&f[1])))),
+        25 => back(Back::CopyOutResponse(copy::CopyOutResponse::new(int(&f[0]) as i8, formats(&f[1]).len() as i16, formats(&f[1])))),
+        26 => back(Back::CopyBothResponse(copy::CopyBothResponse::new(int(&f[0]) as i8, formats(&f[1]).len() as i16, formats(&f[1])))),
+        27 => back(Back::NotificationResponse(response::NotificationResponse::new(int(&f[0]) as i32, utf8(&f[1])?, utf8(&f[2])?))),
+        28 => front(Front::CancelRequest(cancel::CancelRequest::new(int(&f[0]) as i32, SecretKey::I32(int(&f[1]) as i32)))),
+        29 => back(Back::SslResponse(if int(&f[0]) == 0 { SslResponse::Accept } else { SslResponse::Refuse })),
+        30 => back(Back::GssEncResponse(if int(&f[0]) == 0 { GssEncResponse::Accept } else { GssEncResponse::Refuse })),
+        _ => None,
+    }
+}

@@ -45,12 +45,12 @@ high (negsuc m) f t =
     let z : _≡_ {A = ℕ} 0 1 = cc in
     absurd (omega arith)
 
--- a number that is passed on is read back from its bits
+-- a number that is passed on is read back from its bits, and so are its 32 bits
 pub back : (w : Width) (x : ℤ) → mag x < 2 ^ hbits w → toZ w (ofZ w x) ≡ x
 back w x h = toZ-ofZ w x (record { sfits = h })
 
-pub bits-of : {n : ℕ} (x : ℤ) → SFits w32 x → n ≡ bitsOf 4 (toZ w32 (ofZ w32 x)) → n ≡ bitsOf 4 x
-bits-of x f e = e ∙ ap (bitsOf 4) (toZ-ofZ w32 x f)
+pub passed : (w : Width) {n : ℕ} (x : ℤ) → mag x < 2 ^ hbits w → n ≡ bitsOf 4 (toZ w (ofZ w x)) → n ≡ bitsOf 4 x
+passed w x h e = e ∙ ap (bitsOf 4) (back w x h)
 
 module _ (w : Width) (x : ℤ) (narrower : T (leb (hbits w) (hbits w32))) (fits : SFits w x) where
   pub widens : SFits w32 (toZ w (ofZ w x))

@@ -9,10 +9,13 @@ use mathlib.Core.List.{List, [], _∷_, _++_}
 use lib.IntN.{ℤ}
 use Rattle.protocol.specs.declared.Decoded.the-variants as D
 use Rattle.protocol.specs.declared.Decoded.{Decoded}
+use Rattle.protocol.specs.declared.Element.the-variants as E
+use Rattle.protocol.specs.declared.Element.{Element}
 use Rattle.protocol.specs.declared.List.{List as ListSlot}
 use Rattle.protocol.specs.declared.Message.the-variants as M
 use Rattle.protocol.specs.declared.Message.{Message}
 use Rattle.protocol.specs.declared.Span.{Span}
+use Rattle.protocol.specs.declared.data.FieldDescription.{FieldDescription}
 use Rattle.protocol.specs.declared.extendedquery.Bind.{Bind}
 use Rattle.protocol.specs.declared.response.GssEncResponse.the-variants as Gss
 use Rattle.protocol.specs.declared.response.GssEncResponse.{GssEncResponse}
@@ -83,6 +86,12 @@ numbersOf (M.CancelRequest m) = 28 ∷ signed (m .pid) ++ signed (m .«secret_ke
 numbersOf (M.SslResponse answer) = 29 ∷ sslNumber answer ∷ []
 numbersOf (M.GssEncResponse answer) = 30 ∷ gssNumber answer ∷ []
 
+-- a row's field
+abbrev pub fieldNumbers : FieldDescription → List ℕ
+fieldNumbers d =
+    span (d .name) ++ signed (d .«table_id») ++ signed (d .«column_id») ++ d .«type_id» ∷ signed (d .«type_size»)
+    ++ signed (d .«type_modifier») ++ signed (d .«format_code»)
+
 -- ---- the answers
 
 abbrev pub refusedOut : ℕ → ℕ → ℕ → List ℕ
@@ -100,3 +109,14 @@ unfoldable pub laidOut : Decoded → List ℕ
 laidOut (D.Record m n) = recordOut n (numbersOf m)
 laidOut D.NeedMore = needMoreOut 16
 laidOut (D.Refused number place) = refusedOut 16 number place
+
+-- an element call: 16 numbers too, nothing consumed; from the fifth on the sort of the element and its numbers
+unfoldable pub elementOut : Element → List ℕ
+elementOut (E.Oid n) = recordOut 0 (1 ∷ n ∷ [])
+elementOut (E.Format z) = recordOut 0 (2 ∷ signed z)
+elementOut E.Null = recordOut 0 (3 ∷ [])
+elementOut (E.Value s) = recordOut 0 (4 ∷ span s)
+elementOut (E.Field d) = recordOut 0 (5 ∷ fieldNumbers d)
+elementOut (E.ErrorField c s) = recordOut 0 (6 ∷ c ∷ span s)
+elementOut E.NeedMore = needMoreOut 16
+elementOut (E.Refused number place) = refusedOut 16 number place

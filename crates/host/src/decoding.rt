@@ -68,25 +68,8 @@ fn laid_out(decoded: Decoded) -> [usize; 16]
 {
     match decoded {
         Decoded::Record(message, n) => record(message, n),
-        Decoded::NeedMore => [1, 0, 0, 0, 0, 0, 0, 0, 0, 0, 0, 0, 0, 0, 0, 0],
-        Decoded::Refused(number, place) => [
-            2,
-            number as usize,
-            place,
-            0,
-            0,
-            0,
-            0,
-            0,
-            0,
-            0,
-            0,
-            0,
-            0,
-            0,
-            0,
-            0,
-        ],
+        Decoded::NeedMore => rows::need_more(),
+        Decoded::Refused(number, place) => rows::refused(number, place),
     }
 }
 

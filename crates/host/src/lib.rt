@@ -2,4 +2,5 @@
 // laid out by the definitions of specs/LaidOut.antt. No call asks for anything of its input.
 pub mod bits;
 pub mod decoding;
+pub mod elements;
 pub mod rows;

@@ -1,7 +1,7 @@
-// A record's row of 16 numbers, by the shape of its fields.
+// An answer's row of 16 numbers, by the shape of its fields.
 ghost use mathlib.Core.List.{[], _∷_, _++_};
 ghost use mathlib.Core.Path.{_≡_};
-ghost use Rattle.host.specs.LaidOut.{bindNumbers, list, recordOut, signed, span};
+ghost use Rattle.host.specs.LaidOut.{bindNumbers, list, needMoreOut, recordOut, refusedOut, signed, span};
 use crate::bits::bits;
 use protocol::List;
 use protocol::Span;
@@ -10,6 +10,35 @@ use protocol::extendedquery::Bind;
 use protocol::extendedquery::Execute;
 use protocol::extendedquery::Parse;
 use protocol::response::NotificationResponse;
+
+pub fn need_more() -> [usize; 16]
+    ensures { λ r. ⌜ r ≡ needMoreOut 16 ⌝ }
+{
+    [1, 0, 0, 0, 0, 0, 0, 0, 0, 0, 0, 0, 0, 0, 0, 0]
+}
+
+pub fn refused(number: u8, place: usize) -> [usize; 16]
+    ensures { λ r. ⌜ r ≡ refusedOut 16 number place ⌝ }
+{
+    [
+        2,
+        number as usize,
+        place,
+        0,
+        0,
+        0,
+        0,
+        0,
+        0,
+        0,
+        0,
+        0,
+        0,
+        0,
+        0,
+        0,
+    ]
+}
 
 pub fn none(kind: usize, n: usize) -> [usize; 16]
     ensures { λ r. ⌜ r ≡ recordOut n (kind ∷ []) ⌝ }
@@ -52,7 +81,7 @@ pub fn one_list(kind: usize, n: usize, l: List) -> [usize; 16]
     ]
 }
 
-// Close and Describe.
+// Close and Describe; an error's field, with its code for the target.
 pub fn target(kind: usize, n: usize, target_type: u8, name: Span) -> [usize; 16]
     ensures { λ r. ⌜ r ≡ recordOut n (kind ∷ «target_type» ∷ span name) ⌝ }
 {
