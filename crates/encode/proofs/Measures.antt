@@ -14,7 +14,7 @@ use Rattle.protocol.specs.Encode.{items}
 use Rattle.protocol.specs.Kinds as K
 use Rattle.protocol.specs.WellFormed.{bodyBytes}
 use Rattle.pen.proofs.Encoding.{Measured, measured}
-use Rattle.pen.proofs.Lists.{and-true, able-text, able-signed, able-byte, able-oids, length-text, length-signed, length-byte, length-oids}
+use Rattle.pen.proofs.Lists.{and-true, able-text, able-signed, able-byte, able-rest, able-oids, able-formats, length-text, length-signed, length-byte, length-rest, length-oids, length-formats}
 use Rattle.encode.specs.Given as G
 
 pub parse : (name query oids : List ℕ)
@@ -38,6 +38,44 @@ execute name rows =
     measured K.frontend K.execute (name, (rows, tt)) refl refl
     (simp (able-text, able-signed, and-true) refl)
     (simp (length-append, length-text, length-signed) (omega arith))
+
+pub copyData : (bytes : List ℕ) → Measured K.frontend K.copyData (G.copyData bytes) 1048576 true (length bytes)
+unfolding K.frontend K.copyData G.copyData ableEach bodyBytes bytesOfEach
+copyData bytes =
+    measured K.frontend K.copyData (bytes, tt) refl refl
+    (simp (able-rest, and-true) refl)
+    (simp (length-append, length-rest) (omega arith))
+
+pub formatted : (tag : ℕ) (format : ℤ) (formats : List ℤ)
+    → Measured K.backend (G.formatted tag) (G.formatsOf tag format formats) 8192 (leb (length formats) 32767) (2 * length formats + 3)
+unfolding K.backend ableEach bodyBytes bytesOfEach
+formatted tag format formats =
+    measured K.backend (G.formatted tag) (format, (items formats, tt)) refl refl
+    (simp (able-signed, able-formats, and-true) refl)
+    (simp (length-append, length-signed, length-formats) (omega arith))
+
+pub parameterDescription : (types : List ℕ)
+    → Measured K.backend K.parameterDescription (G.parameterDescription types) 1048576 (leb (length types) 32767) (4 * length types + 2)
+unfolding K.backend K.parameterDescription G.parameterDescription ableEach bodyBytes bytesOfEach
+parameterDescription types =
+    measured K.backend K.parameterDescription (items types, tt) refl refl
+    (simp (able-oids, and-true) refl)
+    (simp (length-append, length-oids) (omega arith))
+
+pub readyForQuery : (status : ℕ) → Measured K.backend K.readyForQuery (G.readyForQuery status) 8192 (isOneOf status K.statuses) 1
+unfolding K.backend K.readyForQuery G.readyForQuery ableEach bodyBytes bytesOfEach
+readyForQuery status =
+    measured K.backend K.readyForQuery (status, tt) refl refl
+    (simp (able-byte, and-true) refl)
+    (simp (length-append, length-byte) (omega arith))
+
+pub notificationResponse : (pid : ℤ) (channel payload : List ℕ)
+    → Measured K.backend K.notificationResponse (G.notificationResponse pid channel payload) 1048576 (noZero channel && noZero payload) (length channel + length payload + 6)
+unfolding K.backend K.notificationResponse G.notificationResponse ableEach bodyBytes bytesOfEach
+notificationResponse pid channel payload =
+    measured K.backend K.notificationResponse (pid, (channel, (payload, tt))) refl refl
+    (simp (able-signed, able-text, and-true) refl)
+    (simp (length-append, length-signed, length-text) (omega arith))
 
 pub fieldless : (tag : ℕ) → Measured K.frontend (G.fieldless tag) (some tt) 8192 true 0
 unfolding K.frontend ableEach bodyBytes bytesOfEach

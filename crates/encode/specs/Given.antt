@@ -45,6 +45,10 @@ aimOf tag target name = some (target, (name, tt))
 abbrev pub formatsOf : (tag : ℕ) → ℤ → List ℤ → Given (formatted tag)
 formatsOf tag format formats = some (format, (items formats, tt))
 
+-- an answer of one byte, which is all of it
+abbrev pub lone : ℕ → Kind
+lone byte = record { tag = byte; smallest = 1; limit = 1; body = []; message = λ _. Sync }
+
 -- ---- extendedquery.rs
 
 unfoldable pub parse : List ℕ → List ℕ → List ℕ → Given K.parse

@@ -1,4 +1,5 @@
 // An encoder for each kind, in the module of its Rust file. Everything is checked before the first byte is written.
+pub mod cancel;
 pub mod copy;
 pub mod data;
 pub mod extendedquery;
