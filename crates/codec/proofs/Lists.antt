@@ -54,10 +54,10 @@ module _ (rules : Rules) (i : Item) (w : ℕ) (f : List ℕ) (p : ℕ) (st : Ste
   unfolding readFixed readCounted
   fixed-list e = rw e (fixed-by (readCount signedCount w f p) refl)
 
-oid-steady : (rules : Rules) (f : List ℕ) → Steady rules oid 4 f
+pub oid-steady : (rules : Rules) (f : List ℕ) → Steady rules oid 4 f
 oid-steady rules f p h = ((numberAt 4 f p, tt), rw (← number-got f p 4 (numberAt 4 f p) h refl) refl)
 
-format-steady : (rules : Rules) (f : List ℕ) → Steady rules format 2 f
+pub format-steady : (rules : Rules) (f : List ℕ) → Steady rules format 2 f
 format-steady rules f p h = ((signedOf 2 (numberAt 2 f p), tt), rw (← number-got f p 2 (numberAt 2 f p) h refl) refl)
 
 pub oid-list : (rules : Rules) (f : List ℕ) (p : ℕ) → readFixed 4 f p ≡ read rules (counted signedCount oid) f p

@@ -264,7 +264,8 @@ impl Cursor {
         }
     }
 
-    fn pass_values(self, rules: Rules, frame: &[u8], count: usize) -> Passed
+    // Past so many values, each checked.
+    pub fn pass_values(self, rules: Rules, frame: &[u8], count: usize) -> Passed
         ensures { λ r. ⌜ passedRead r ≡ passItems rules nullable count (now (frame .entry)) (self .at) ⌝ }
     {
         let mut at = self.at;

@@ -22,7 +22,7 @@ enum Byte {
 
 const NO_DIGIT: u8 = 16;
 
-fn digit(letter: u8) -> u8 {
+pub fn digit(letter: u8) -> u8 {
     match letter {
         b'0'..=b'9' => letter - b'0',
         b'A'..=b'F' => letter - b'A' + 10,

@@ -1,8 +1,9 @@
-// Document 01's edges, run: each line of the input is a case in text, and is written back with what decode answers.
+// Document 01's edges, run: each line of the input is a case in text, and is written back with what decode or an element call answers.
 ghost use Prim.Native.Nat.{_≤_};
 ghost use lib.ListN.{length};
 
 mod cuts;
+mod elements;
 mod hex;
 mod record;
 mod text;
@@ -49,6 +50,28 @@ fn answer_cuts(line: &[u8]) {
     }
 }
 
+// A case after a word of four letters, a list's digit and a space on either side of that: elements of that list.
+fn answer_elements(line: &[u8]) {
+    let start: usize = 7;
+    if line.len() < start {
+        text::write(b"malformed case");
+        return;
+    }
+    let list = hex::digit(line[5]) as usize;
+    let mut frame = [0u8; hex::ROOM];
+    match hex::read_case(&line[start..], &mut frame) {
+        hex::Case::Of(mode, count) => {
+            let buf = hex::first(&frame, count);
+            match line[0] {
+                b'l' => elements::write_list(mode, buf, list),
+                b'v' => elements::write_values(mode, buf, list),
+                _ => elements::write_far(mode, buf, list),
+            }
+        }
+        hex::Case::Malformed => text::write(b"malformed case"),
+    }
+}
+
 // Every line is written back; what is no comment, with its answer.
 fn answer_line(line: &[u8]) {
     text::write(line);
@@ -58,6 +81,10 @@ fn answer_line(line: &[u8]) {
         b'c' => {
             text::write(b" = ");
             answer_cuts(line);
+        }
+        b'l' | b'v' | b'p' => {
+            text::write(b" = ");
+            answer_elements(line);
         }
         _ => {
             text::write(b" = ");

@@ -12,7 +12,7 @@ use protocol::response::NotificationResponse;
 use protocol::response::SslResponse;
 
 // A string, a value or a rest.
-fn write_span(name: &[u8], span: Span) {
+pub fn write_span(name: &[u8], span: Span) {
     text::write(name);
     text::write_number(span.start);
     text::write(b"+");
@@ -26,12 +26,12 @@ fn write_list(name: &[u8], list: List) {
     text::write_number(list.count);
 }
 
-fn write_letter(name: &[u8], letter: u8) {
+pub fn write_letter(name: &[u8], letter: u8) {
     text::write(name);
     text::write_byte(letter);
 }
 
-fn write_signed(name: &[u8], n: i32) {
+pub fn write_signed(name: &[u8], n: i32) {
     text::write(name);
     text::write_signed(n);
 }
@@ -160,6 +160,13 @@ fn write_message(message: Message) {
     }
 }
 
+pub fn write_refused(number: u8, place: usize) {
+    text::write(b"refused ");
+    text::write_number(number as usize);
+    text::write(b" at ");
+    text::write_number(place);
+}
+
 pub fn write_decoded(decoded: Decoded) {
     match decoded {
         Decoded::Record(message, consumed) => {
@@ -169,11 +176,6 @@ pub fn write_decoded(decoded: Decoded) {
             text::write(b" consumed");
         }
         Decoded::NeedMore => text::write(b"need-more"),
-        Decoded::Refused(number, place) => {
-            text::write(b"refused ");
-            text::write_number(number as usize);
-            text::write(b" at ");
-            text::write_number(place);
-        }
+        Decoded::Refused(number, place) => write_refused(number, place),
     }
 }

@@ -8,13 +8,16 @@ use native.Mathlib.Omega.{arith}
 use lib.Dec.{leb}
 use lib.IntN.{ℤ}
 use lib.ListN.{length, length-append}
-use Rattle.protocol.specs.Bytes.{noZero}
+use Rattle.protocol.specs.Bytes.{noZero, isOneOf}
 use Rattle.protocol.specs.Each.{ableEach, bytesOfEach}
-use Rattle.protocol.specs.Encode.{items}
+use Rattle.protocol.specs.Encode.{items, valuesGiven}
 use Rattle.protocol.specs.Kinds as K
 use Rattle.protocol.specs.WellFormed.{bodyBytes}
+use Rattle.pen.specs.Given.{isSome}
 use Rattle.pen.proofs.Encoding.{Measured, measured}
-use Rattle.pen.proofs.Lists.{and-true, able-text, able-i32, able-oids, length-text, length-i32, length-oids}
+use Rattle.pen.proofs.GivenLaws.{measured-given}
+use Rattle.pen.proofs.Lists.{and-true, able-text, able-signed, able-byte, able-oids, length-text, length-signed, length-byte, length-oids, able-rest, able-formats, length-rest, length-formats}
+use Rattle.pen.proofs.ValueLaws.{able-values, length-values}
 use Rattle.encode.specs.Given as G
 
 pub parse : (name query oids : List ℕ)
@@ -25,13 +28,73 @@ parse name query oids =
     (simp (able-text, able-oids, and-true) refl)
     (simp (length-append, length-text, length-oids) (omega arith))
 
+pub aimed : (tag target : ℕ) (name : List ℕ) → Measured K.frontend (G.aimed tag) (G.aimOf tag target name) 8192 (isOneOf target K.targets && noZero name) (length name + 2)
+unfolding K.frontend ableEach bodyBytes bytesOfEach
+aimed tag target name =
+    measured K.frontend (G.aimed tag) (target, (name, tt)) refl refl
+    (simp (able-byte, able-text, and-true) refl)
+    (simp (length-append, length-byte, length-text) (omega arith))
+
 pub execute : (name : List ℕ) (rows : ℤ) → Measured K.frontend K.execute (G.execute name rows) 8192 (noZero name) (length name + 5)
 unfolding K.frontend K.execute G.execute ableEach bodyBytes bytesOfEach
 execute name rows =
     measured K.frontend K.execute (name, (rows, tt)) refl refl
-    (simp (able-text, able-i32, and-true) refl)
-    (simp (length-append, length-text, length-i32) (omega arith))
+    (simp (able-text, able-signed, and-true) refl)
+    (simp (length-append, length-text, length-signed) (omega arith))
+
+pub copyData : (bytes : List ℕ) → Measured K.frontend K.copyData (G.copyData bytes) 1048576 true (length bytes)
+unfolding K.frontend K.copyData G.copyData ableEach bodyBytes bytesOfEach
+copyData bytes =
+    measured K.frontend K.copyData (bytes, tt) refl refl
+    (simp (able-rest, and-true) refl)
+    (simp (length-append, length-rest) (omega arith))
+
+pub formatted : (tag : ℕ) (format : ℤ) (formats : List ℤ)
+    → Measured K.backend (G.formatted tag) (G.formatsOf tag format formats) 8192 (leb (length formats) 32767) (2 * length formats + 3)
+unfolding K.backend ableEach bodyBytes bytesOfEach
+formatted tag format formats =
+    measured K.backend (G.formatted tag) (format, (items formats, tt)) refl refl
+    (simp (able-signed, able-formats, and-true) refl)
+    (simp (length-append, length-signed, length-formats) (omega arith))
+
+pub parameterDescription : (types : List ℕ)
+    → Measured K.backend K.parameterDescription (G.parameterDescription types) 1048576 (leb (length types) 32767) (4 * length types + 2)
+unfolding K.backend K.parameterDescription G.parameterDescription ableEach bodyBytes bytesOfEach
+parameterDescription types =
+    measured K.backend K.parameterDescription (items types, tt) refl refl
+    (simp (able-oids, and-true) refl)
+    (simp (length-append, length-oids) (omega arith))
+
+pub readyForQuery : (status : ℕ) → Measured K.backend K.readyForQuery (G.readyForQuery status) 8192 (isOneOf status K.statuses) 1
+unfolding K.backend K.readyForQuery G.readyForQuery ableEach bodyBytes bytesOfEach
+readyForQuery status =
+    measured K.backend K.readyForQuery (status, tt) refl refl
+    (simp (able-byte, and-true) refl)
+    (simp (length-append, length-byte) (omega arith))
+
+pub notificationResponse : (pid : ℤ) (channel payload : List ℕ)
+    → Measured K.backend K.notificationResponse (G.notificationResponse pid channel payload) 1048576 (noZero channel && noZero payload) (length channel + length payload + 6)
+unfolding K.backend K.notificationResponse G.notificationResponse ableEach bodyBytes bytesOfEach
+notificationResponse pid channel payload =
+    measured K.backend K.notificationResponse (pid, (channel, (payload, tt))) refl refl
+    (simp (able-signed, able-text, and-true) refl)
+    (simp (length-append, length-signed, length-text) (omega arith))
+
+pub dataRow : (lengths : List ℤ) (joined : List ℕ)
+    → Measured K.backend K.dataRow (G.dataRow lengths joined) 1048576 (isSome (valuesGiven lengths joined) && leb (length lengths) 32767) (length joined + 4 * length lengths + 2)
+unfolding K.backend K.dataRow G.dataRow ableEach bodyBytes bytesOfEach
+dataRow lengths joined =
+    measured-given K.dataRow (λ vs. (vs, tt)) K.backend (valuesGiven lengths joined) refl refl
+    (λ vs is. rw (able-values _ lengths joined vs is) (and-true (leb (length lengths) 32767)))
+    (λ vs is. simp length-append (omega (arith, length-values lengths joined vs is)))
 
 pub fieldless : (tag : ℕ) → Measured K.frontend (G.fieldless tag) (some tt) 8192 true 0
 unfolding K.frontend ableEach bodyBytes bytesOfEach
 fieldless tag = measured K.frontend (G.fieldless tag) tt refl refl refl refl
+
+pub texted : (tag : ℕ) (s : List ℕ) → Measured K.frontend (G.texted tag) (G.textOf tag s) 8192 (noZero s) (length s + 1)
+unfolding K.frontend ableEach bodyBytes bytesOfEach
+texted tag s =
+    measured K.frontend (G.texted tag) (s, tt) refl refl
+    (simp (able-text, and-true) refl)
+    (simp (length-append, length-text) (omega arith))

@@ -1,6 +1,6 @@
 -- For each kind, the content that its encoder's arguments are, if they are one. The arguments stand in the order of the body's fields.
 use Prim.Native.Nat.{ℕ}
-use mathlib.Core.List.{List, []}
+use mathlib.Core.List.{List, [], _∷_}
 use mathlib.Core.Option.{Option, some, Option·map}
 use lib.IntN.{ℤ}
 use Rattle.protocol.specs.declared.Message.the-variants.{Sync}
@@ -10,6 +10,7 @@ use Rattle.protocol.specs.declared.response.GssEncResponse.{GssEncResponse}
 use Rattle.protocol.specs.declared.response.SslResponse.the-variants as Ssl
 use Rattle.protocol.specs.declared.response.SslResponse.{SslResponse}
 use Rattle.protocol.specs.Encode.{items, valuesGiven, errorFieldsGiven, rowFieldsGiven, sslKind, gssKind}
+use Rattle.protocol.specs.Fields.{Field, ended}
 use Rattle.protocol.specs.Kinds as K
 use Rattle.protocol.specs.Kinds.{Kind}
 use Rattle.protocol.specs.WellFormed.{Contents}
@@ -18,9 +19,35 @@ use Rattle.protocol.specs.WellFormed.{Contents}
 abbrev pub Given : Kind → Type 0
 Given k = Option (Contents k)
 
--- a kind with no field: its type byte is all there is to say
+-- kinds of one shape: for an encoder, the type byte is all that tells them apart
+abbrev pub shaped : ℕ → List Field → ℕ → Kind
+shaped smallest body tag = record { tag = tag; smallest = smallest; limit = K.small; body = body; message = λ _. Sync }
+
+-- no field; a string; a target and a name; a format and the columns' formats
 abbrev pub fieldless : ℕ → Kind
-fieldless tag = record { tag = tag; smallest = 4; limit = K.small; body = []; message = λ _. Sync }
+fieldless = shaped 4 []
+
+abbrev pub texted : ℕ → Kind
+texted = shaped 5 (K.string ∷ [])
+
+abbrev pub aimed : ℕ → Kind
+aimed = shaped 6 (K.target ∷ K.string ∷ [])
+
+abbrev pub formatted : ℕ → Kind
+formatted = shaped 7 (K.i8 ∷ K.formats ∷ [])
+
+abbrev pub textOf : (tag : ℕ) → List ℕ → Given (texted tag)
+textOf tag s = some (s, tt)
+
+abbrev pub aimOf : (tag : ℕ) → ℕ → List ℕ → Given (aimed tag)
+aimOf tag target name = some (target, (name, tt))
+
+abbrev pub formatsOf : (tag : ℕ) → ℤ → List ℤ → Given (formatted tag)
+formatsOf tag format formats = some (format, (items formats, tt))
+
+-- an answer of one byte, which is all of it
+abbrev pub lone : ℕ → Kind
+lone byte = record { tag = byte; smallest = 1; limit = 1; body = []; message = λ _. Sync }
 
 -- ---- extendedquery.rs
 
@@ -126,6 +153,13 @@ emptyQueryResponse = some tt
 unfoldable pub readyForQuery : ℕ → Given K.readyForQuery
 unfolding K.readyForQuery
 readyForQuery status = some (status, tt)
+
+-- an error and a notice are of one shape, as the kinds above
+abbrev pub reported : ℕ → Kind
+reported tag = record { tag = tag; smallest = 5; limit = K.large; body = ended K.errorField ∷ []; message = λ _. Sync }
+
+abbrev pub reportOf : (tag : ℕ) → List ℕ → List ℕ → List ℕ → Given (reported tag)
+reportOf tag codes lengths joined = Option·map (λ fs. (fs, tt)) (errorFieldsGiven codes lengths joined)
 
 unfoldable pub errorResponse : List ℕ → List ℕ → List ℕ → Given K.errorResponse
 unfolding K.errorResponse

@@ -1,11 +1,26 @@
 // The messages that describe and carry rows, as in data.rs.
-ghost use Rattle.protocol.specs.Encode.{Encodes};
+ghost use Prim.Native.Nat.{_+_, _*_, _≤_};
+ghost use mathlib.Core.Bool.{true};
+ghost use mathlib.Core.Path.{_≡_};
+ghost use lib.ListN.{length};
+ghost use Rattle.protocol.specs.Encode.{Encodes, valuesGiven};
 ghost use Rattle.protocol.specs.Kinds as K;
+ghost use Rattle.pen.specs.Given.{isSome};
+ghost use Rattle.pen.specs.Writing.{Framed};
 ghost use Rattle.encode.specs.Given as G;
 use crate::bare;
+use pen::plus;
+use pen::put_head;
+use pen::put_oids;
+use pen::values::put_values;
+use pen::values::values_given;
+use pen::verdict;
 use protocol::Encoded;
 use protocol::data::FieldDescription;
+use protocol::data::MESSAGE_TYPE_BYTE_DATA_ROW;
 use protocol::data::MESSAGE_TYPE_BYTE_NO_DATA;
+use protocol::data::MESSAGE_TYPE_BYTE_PARAMETER_DESCRITION;
+use protocol::kinds::LARGE;
 use rows::Pen;
 use rows::begin;
 use rows::each;
@@ -24,6 +39,48 @@ pub fn row_description(fields: &[FieldDescription], run: &[u8], out: &mut [u8]) 
     let measured = each(fields, run, out, blank);
     let r = begin(measured, fields.len(), out);
     each(fields, run, out, writer(r));
+    r
+}
+
+fn write_parameter_description(types: &[u32], n: usize, out: &mut [u8])
+    requires { ⌜ (n ≡ 4 * length (now types) + 7) × (n ≤ length (now out)) × (n ≤ 1048577) × (length (now types) ≤ 32767) ⌝ }
+    ensures { λ r. ⌜ Framed K.typed K.parameterDescription (G.parameterDescription (now (types .entry))) (now (out .entry)) (now (out .exit)) ⌝ }
+{
+    let at = put_head(out, MESSAGE_TYPE_BYTE_PARAMETER_DESCRITION, n);
+    put_oids(out, at, types);
+}
+
+pub fn parameter_description(types: &[u32], out: &mut [u8]) -> Encoded
+    ensures { λ r. ⌜ Encodes K.backend K.parameterDescription (G.parameterDescription (now (types .entry))) (now (out .entry)) r (now (out .exit)) ⌝ }
+{
+    let able = types.len() <= 32767;
+    let size = plus(types.len() * 4, 6);
+    let r = verdict(able, LARGE, size, out.len());
+    let Encoded::Done(n) = r else {
+        return r;
+    };
+    write_parameter_description(types, n, out);
+    r
+}
+
+fn write_data_row(lengths: &[i32], joined: &[u8], n: usize, out: &mut [u8])
+    requires { ⌜ (n ≡ length (now joined) + 4 * length (now lengths) + 7) × (n ≤ length (now out)) × (n ≤ 1048577) × (length (now lengths) ≤ 32767) × (isSome (valuesGiven (now lengths) (now joined)) ≡ true) ⌝ }
+    ensures { λ r. ⌜ Framed K.typed K.dataRow (G.dataRow (now (lengths .entry)) (now (joined .entry))) (now (out .entry)) (now (out .exit)) ⌝ }
+{
+    let at = put_head(out, MESSAGE_TYPE_BYTE_DATA_ROW, n);
+    put_values(out, at, lengths, joined);
+}
+
+pub fn data_row(lengths: &[i32], joined: &[u8], out: &mut [u8]) -> Encoded
+    ensures { λ r. ⌜ Encodes K.backend K.dataRow (G.dataRow (now (lengths .entry)) (now (joined .entry))) (now (out .entry)) r (now (out .exit)) ⌝ }
+{
+    let able = values_given(lengths, joined) & (lengths.len() <= 32767);
+    let size = plus(joined.len(), lengths.len() * 4 + 6);
+    let r = verdict(able, LARGE, size, out.len());
+    let Encoded::Done(n) = r else {
+        return r;
+    };
+    write_data_row(lengths, joined, n, out);
     r
 }
 

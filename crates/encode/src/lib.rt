@@ -1,17 +1,22 @@
 // An encoder for each kind, in the module of its Rust file. Everything is checked before the first byte is written.
+pub mod cancel;
 pub mod copy;
 pub mod data;
 pub mod extendedquery;
 pub mod response;
 
-ghost use Prim.Native.Nat.{_≤_};
+ghost use Prim.Native.Nat.{_+_, _≤_};
 ghost use mathlib.Core.Option.{some};
+ghost use mathlib.Core.Path.{_≡_};
 ghost use lib.ListN.{length};
 ghost use Rattle.protocol.specs.Encode.{Encodes};
 ghost use Rattle.protocol.specs.Kinds.{frontend, typed};
 ghost use Rattle.pen.specs.Writing.{Framed};
-ghost use Rattle.encode.specs.Given.{fieldless};
+ghost use Rattle.encode.specs.Given.{fieldless, textOf, texted};
+use pen::no_zero;
+use pen::plus;
 use pen::put_head;
+use pen::put_text;
 use pen::verdict;
 use protocol::Encoded;
 use protocol::kinds::SMALL;
@@ -32,5 +37,27 @@ fn bare(type_byte: u8, out: &mut [u8]) -> Encoded
         return r;
     };
     write_bare(type_byte, out);
+    r
+}
+
+fn write_one_text(type_byte: u8, s: &[u8], n: usize, out: &mut [u8])
+    requires { ⌜ (n ≡ length (now s) + 6) × (n ≤ length (now out)) × (n ≤ 8193) ⌝ }
+    ensures { λ r. ⌜ Framed typed (texted «type_byte») (textOf «type_byte» (now (s .entry))) (now (out .entry)) (now (out .exit)) ⌝ }
+{
+    let at = put_head(out, type_byte, n);
+    put_text(out, at, s);
+}
+
+// A frame whose body is one string.
+fn one_text(type_byte: u8, s: &[u8], out: &mut [u8]) -> Encoded
+    ensures { λ r. ⌜ Encodes frontend (texted «type_byte») (textOf «type_byte» (now (s .entry))) (now (out .entry)) r (now (out .exit)) ⌝ }
+{
+    let able = no_zero(s);
+    let size = plus(s.len(), 5);
+    let r = verdict(able, SMALL, size, out.len());
+    let Encoded::Done(n) = r else {
+        return r;
+    };
+    write_one_text(type_byte, s, n, out);
     r
 }

@@ -20,3 +20,14 @@ module _ (rules : Rules) (i : Item) (f : List ℕ) (p : ℕ) {X : Type 0} (make 
   pub passed-by : (r : Read X) → r ≡ andThen (readItem rules i f p) (λ s q. got (make s) q) → forgotten r ≡ passItems rules i 1 f p
   unfolding passItems
   passed-by r e = ap forgotten e ∙ by (readItem rules i f p)
+
+-- the same, where nothing is made of it
+module _ (rules : Rules) (i : Item) (f : List ℕ) (p : ℕ) where
+  alone : (r : Read (Each AtomSlot (i .atoms))) → forgotten r ≡ andThen r (λ s q. passItems rules i 0 f q)
+  unfolding passItems
+  alone (got s q) = refl
+  alone (bad k b) = refl
+
+  pub passed-alone : (r : Read (Each AtomSlot (i .atoms))) → r ≡ readItem rules i f p → forgotten r ≡ passItems rules i 1 f p
+  unfolding passItems
+  passed-alone r e = ap forgotten e ∙ alone (readItem rules i f p)

@@ -2,14 +2,17 @@
 ghost use mathlib.Core.Path.{_≡_};
 ghost use Rattle.protocol.specs.Fields.{ended};
 ghost use Rattle.protocol.specs.Kinds as K;
-ghost use Rattle.protocol.specs.Reading.{read};
-ghost use Rattle.codec.specs.Answers.{listedRead};
+ghost use Rattle.protocol.specs.Reading.{passItems, read, readItem};
+ghost use Rattle.codec.specs.Answers.{listedRead, passedRead};
+ghost use Rattle.items.specs.Answers.{errorRead};
 use codec::Byte;
 use codec::Cursor;
 use codec::Listed;
+use codec::Passed;
 use codec::Text;
 use protocol::List;
 use protocol::Rules;
+use protocol::Span;
 use protocol::refusal::CUT;
 
 // How the walk over an error's fields ends: at the zero byte with the next cursor, at a missing code, or at a string that is cut.
@@ -45,4 +48,48 @@ pub fn error_fields(rules: Rules, frame: &[u8], c: Cursor) -> Listed
         Outcome::CutCode(place) => Listed::Refused(CUT, place),
         Outcome::CutString(place) => Listed::Refused(CUT, place),
     }
+}
+
+// One field of an error, its code and its string with the next cursor, or the place where it is cut.
+pub enum ErrorStep {
+    Is(u8, Span, Cursor),
+    Cut(usize),
+}
+
+pub fn error_field(rules: Rules, frame: &[u8], c: Cursor) -> ErrorStep
+    ensures { λ r. ⌜ errorRead r ≡ readItem rules K.errorField (now (frame .entry)) (c .at) ⌝ }
+{
+    let Byte::Is(code, c) = c.byte(frame) else {
+        return ErrorStep::Cut(c.at);
+    };
+    let Text::Is(string, c) = c.text(rules, frame) else {
+        return ErrorStep::Cut(c.at);
+    };
+    ErrorStep::Is(code, string, c)
+}
+
+fn pass_error_field(rules: Rules, frame: &[u8], c: Cursor) -> Passed
+    ensures { λ r. ⌜ passedRead r ≡ passItems rules K.errorField 1 (now (frame .entry)) (c .at) ⌝ }
+{
+    match error_field(rules, frame, c) {
+        ErrorStep::Is(_, _, next) => Passed::To(next),
+        ErrorStep::Cut(place) => Passed::Refused(CUT, place),
+    }
+}
+
+// Past so many fields, whatever their codes.
+pub fn pass_error_fields(rules: Rules, frame: &[u8], c: Cursor, count: usize) -> Passed
+    ensures { λ r. ⌜ passedRead r ≡ passItems rules K.errorField count (now (frame .entry)) (c .at) ⌝ }
+{
+    let mut at = c.at;
+    let mut left = count;
+    while 0 < left {
+        let passed = pass_error_field(rules, frame, Cursor { at });
+        let Passed::To(next) = passed else {
+            return passed;
+        };
+        at = next.at;
+        left -= 1;
+    }
+    Passed::To(Cursor { at })
 }

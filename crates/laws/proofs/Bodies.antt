@@ -31,7 +31,7 @@ saneField (counted k i) = saneItem i
 saneField (ended i) = saneItem i
 
 -- a field that does not read to the frame's end
-abbrev stops : Field → Bool
+abbrev pub stops : Field → Bool
 stops (one (unsigned w)) = true
 stops (one (signed w)) = true
 stops (one (oneOf bs)) = true
@@ -46,12 +46,12 @@ restLast [] = true
 restLast (x ∷ []) = true
 restLast (x ∷ y ∷ ys) = stops x && restLast (y ∷ ys)
 
-abbrev LastField : Field → List ℕ → Type 0
+abbrev pub LastField : Field → List ℕ → Type 0
 LastField (one a) post = LastAtom a post
 LastField (counted k i) post = Unit {0}
 LastField (ended i) post = Unit {0}
 
-last-nothing : (x : Field) → LastField x []
+pub last-nothing : (x : Field) → LastField x []
 last-nothing (one (unsigned w)) = tt
 last-nothing (one (signed w)) = tt
 last-nothing (one (oneOf bs)) = tt
@@ -61,7 +61,7 @@ last-nothing (one rest) = refl
 last-nothing (counted k i) = tt
 last-nothing (ended i) = tt
 
-last-stops : (x : Field) (post : List ℕ) → T (stops x) → LastField x post
+pub last-stops : (x : Field) (post : List ℕ) → T (stops x) → LastField x post
 last-stops (one (unsigned w)) post t = tt
 last-stops (one (signed w)) post t = tt
 last-stops (one (oneOf bs)) post t = tt

@@ -46,7 +46,7 @@ in-item-sane text t = tt
 in-item-sane value t = tt
 in-item-sane rest t = absurd t
 
-in-item-last : (a : Atom) (post : List ℕ) → T (inItem a) → LastAtom a post
+pub in-item-last : (a : Atom) (post : List ℕ) → T (inItem a) → LastAtom a post
 in-item-last (unsigned w) post t = tt
 in-item-last (signed w) post t = tt
 in-item-last (oneOf bs) post t = tt

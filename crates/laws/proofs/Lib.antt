@@ -19,3 +19,6 @@ pub mod Table
 pub mod Headers
 pub mod MoreBytes
 pub mod NeedMore
+pub mod InOrder
+pub mod RowEntries
+pub mod Encoders

@@ -8,3 +8,5 @@ pub mod Items
 pub mod ElementStatements
 pub mod Arguments
 pub mod EncodeStatements
+pub mod ReaderStatements
+pub mod Encoders

@@ -5,7 +5,7 @@ use mathlib.Core.List.{List, _++_}
 use mathlib.Core.Option.{Option, some, none}
 use mathlib.Core.Path.{_≡_, refl, ap, _∙_, sym}
 use native.Mathlib.Omega.{arith}
-use borrow.Author.Tests.{ltb-true, ltb-false, lt-ltb}
+use borrow.Author.Tests.{ltb-true, ltb-false, lt-ltb, le-ltb}
 use lib.Dec.{ltb}
 use lib.ListN.{length, drop, length-append}
 use Rattle.protocol.specs.declared.Encoded.the-variants as N
@@ -57,6 +57,10 @@ framed {d} {mid} {left} {n} k c h b e =
     let f : length (bodyBytes k c) ≡ n - 5 = omega (arith, b .size) in
     let w : left ≡ write d 0 (frame typed k c) = rw f ((h then b) .bytes) in
     record { bytes = λ x is. w ∙ ap (λ (y : Contents k). write d 0 (frame typed k y)) (only is) }
+
+-- in any envelope, head and body at once
+pub framed-whole : {d left : List ℕ} {e : Envelope} {n next : ℕ} (k : Kind) (c : Contents k) → Wrote d 0 (frame e k c) n left next → Framed e k (some c) d left
+framed-whole {d} {left} {e} k c w = record { bytes = λ x is. w .bytes ∙ ap (λ (y : Contents k). write d 0 (frame e k y)) (only is) }
 
 -- ---- the verdict
 
@@ -171,6 +175,18 @@ done {m} {k} {given} {out} {left} {n} v is w =
     let e : n ≡ length f = h .whole ∙ sym (length-frame (m .envelope) k (h .it)) in
     let l : left ≡ f ++ drop n out = w .bytes (h .it) (h .is) ∙ front out f (omega (arith, e, h .fits)) ∙ ap (λ (i : ℕ). f ++ drop i out) (sym e) in
     record { answer = sym is ∙ v .answer; output = rw (h .is) l }
+
+-- ---- the two answers to a frame of a size that is known, with nothing but the room to ask for
+
+module _ (m : Mode) (k : Kind) (c : Contents k) {n room : ℕ} (able : allAble (record { mode = m .mode }) k c ≡ true)
+    (small : ltb (k .limit) (lengthOf (m .envelope) (length (bodyBytes k c))) ≡ false) (size : length (frame (m .envelope) k c) ≡ n) where
+  pub short : room < n → Judged m k (some c) room (N.Refused outputTooShort 0)
+  unfolding encodedBy
+  short h = record { answer = rw (able, small, size, lt-ltb room n h) refl }
+
+  pub enough : n ≤ room → Judged m k (some c) room (N.Done n)
+  unfolding encodedBy
+  enough h = record { answer = rw (able, small, size, le-ltb room n h) refl }
 
 -- ---- the same for frames with a type byte, in plain numbers
 

@@ -1,4 +1,7 @@
 pub mod Encoding
+pub mod ErrorLaws
+pub mod GivenLaws
 pub mod Laws
 pub mod Lists
 pub mod Signs
+pub mod ValueLaws

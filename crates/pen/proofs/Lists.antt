@@ -1,5 +1,5 @@
 -- Fields: how long their bytes are, whether they can be written, and a list's bytes at each turn of a loop.
-use Prim.Native.Nat.{ℕ, _+_, _*_, _<_}
+use Prim.Native.Nat.{ℕ, zero, suc, _+_, _*_, _/_, _%_, _<_}
 use mathlib.Core.Bool.{Bool, true, false, _&&_}
 use mathlib.Core.List.{List, [], _∷_, _++_, append-nil}
 use mathlib.Core.Path.{_≡_, refl, ap, _∙_}
@@ -12,11 +12,11 @@ use mir.Syntax.{w16}
 use mir.Val.{toZ, ofZ}
 use mir.ValLaws.{toZ-ofZ}
 use Rattle.protocol.specs.declared.Rules.{Rules}
-use Rattle.protocol.specs.Bytes.{noZero, be, bitsOf}
+use Rattle.protocol.specs.Bytes.{noZero, isOneOf, be, bitsOf}
 use Rattle.protocol.specs.Each.{bytesOfEach, ableEach}
 use Rattle.protocol.specs.Encode.{items}
-use Rattle.protocol.specs.Fields.{able, bytes, atomBytes, atomAble, itemBytes, itemAble, itemsBytes, itemsAble}
-use Rattle.protocol.specs.Kinds.{string, i32, oid, format, oids, formats}
+use Rattle.protocol.specs.Fields.{signed, oneOf, rest, one, able, bytes, atomBytes, atomAble, itemBytes, itemAble, itemsBytes, itemsAble}
+use Rattle.protocol.specs.Kinds.{string, oid, format, oids, formats}
 use Rattle.pen.proofs.Laws.{drop-more}
 
 pub length-items : {A : Type 0} (xs : List A) → length (items xs) ≡ length xs
@@ -77,13 +77,34 @@ pub length-text : (s : List ℕ) → length (bytes string s) ≡ length s + 1
 unfolding bytes atomBytes
 length-text s = length-append s (0 ∷ [])
 
-pub able-i32 : (rules : Rules) (z : ℤ) → able rules i32 z ≡ true
+pub able-signed : (rules : Rules) (w : ℕ) (z : ℤ) → able rules (one (signed w)) z ≡ true
 unfolding able atomAble
-able-i32 rules z = refl
+able-signed rules w z = refl
 
-pub length-i32 : (z : ℤ) → length (bytes i32 z) ≡ 4
-unfolding bytes atomBytes be
-length-i32 z = refl
+length-be : (w n : ℕ) → length (be w n) ≡ w
+unfolding be
+length-be zero n = refl
+length-be (suc w) n = omega (arith, length-append (be w (n / 256)) (n % 256 ∷ []), length-be w (n / 256))
+
+pub length-signed : (w : ℕ) (z : ℤ) → length (bytes (one (signed w)) z) ≡ w
+unfolding bytes atomBytes
+length-signed w z = length-be w (bitsOf w z)
+
+pub able-byte : (rules : Rules) (bs : List ℕ) (b : ℕ) → able rules (one (oneOf bs)) b ≡ isOneOf b bs
+unfolding able atomAble
+able-byte rules bs b = refl
+
+pub length-byte : (bs : List ℕ) (b : ℕ) → length (bytes (one (oneOf bs)) b) ≡ 1
+unfolding bytes atomBytes
+length-byte bs b = refl
+
+pub able-rest : (rules : Rules) (s : List ℕ) → able rules (one rest) s ≡ true
+unfolding able atomAble
+able-rest rules s = refl
+
+pub length-rest : (s : List ℕ) → length (bytes (one rest) s) ≡ length s
+unfolding bytes atomBytes
+length-rest s = refl
 
 pub able-oids : (rules : Rules) (xs : List ℕ) → able rules oids (items xs) ≡ leb (length xs) 32767
 unfolding able

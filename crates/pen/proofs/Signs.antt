@@ -1,6 +1,7 @@
 -- A signed number's two's complement, by its sign, at each width.
-use Prim.Native.Nat.{ℕ, suc, _-_, _<_, _^_}
+use Prim.Native.Nat.{ℕ, suc, _-_, _%_, _<_, _^_}
 use mathlib.Core.Bool.{true, false}
+use mathlib.Core.List.{List, [], _∷_}
 use mathlib.Core.Path.{_≡_, refl, ap, _∙_, sym}
 use native.Mathlib.Omega.{arith}
 use borrow.Author.Tests.{le-ltb, ltb-true}
@@ -9,7 +10,8 @@ use lib.Signed.{ltZ}
 use mir.Syntax.{Width}
 use mir.Val.{SFits, hbits, toZ, ofZ}
 use mir.ValLaws.{toZ-ofZ, toZ-pos}
-use Rattle.protocol.specs.Bytes.{bitsOf}
+use Rattle.protocol.specs.Bytes.{be, bitsOf}
+use Rattle.pen.specs.Writing.{Wrote}
 
 flip : (n : ℕ) → negsuc 0 -ℤ negsuc n ≡ pos n
 flip n = rw (le-ltb (suc n) 1 (omega arith)) (ap pos (omega arith))
@@ -55,3 +57,10 @@ high w (negsuc m) f t =
 -- a number that is passed on is read back from its bits
 pub bits-of : {n : ℕ} (w : Width) (b : ℕ) (x : ℤ) → SFits w x → n ≡ bitsOf b (toZ w (ofZ w x)) → n ≡ bitsOf b x
 bits-of w b x f e = e ∙ ap (bitsOf b) (toZ-ofZ w x f)
+
+-- a signed number of one byte is written as that byte
+pub byte-of : {d out : List ℕ} {p next x : ℕ} (z : ℤ) → x < 256 → x ≡ bitsOf 1 z → Wrote d p (x ∷ []) 1 out next → Wrote d p (be 1 (bitsOf 1 z)) 1 out next
+unfolding be
+byte-of {x = x} z h e w =
+    let f : x % 256 ≡ x = omega arith in
+    rw (← e, f) w

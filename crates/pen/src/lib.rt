@@ -1,5 +1,8 @@
 // Writers of the fields of a frame: each writes at a place of the output and answers the place after it. And what comes before any
 // write: sizes that cannot wrap, the scan for zero bytes, and the answer.
+pub mod errors;
+pub mod values;
+
 ghost use Prim.Native.Nat.{_+_, _-_, _*_, _≤_, min};
 ghost use mathlib.Core.List.{[], _++_, _∷_};
 ghost use mathlib.Core.Path.{_≡_};

@@ -53,6 +53,21 @@ module _ {A : Type 0} (key : A → ℕ) (test : A → Bool) where
   find-every (x ∷ xs) k y t e =
       every-by x xs k y (eqb k (key x)) (and-left (test x) (every test xs) t) (λ h. find-every xs k y (and-right (test x) (every test xs) t) h) e
 
+-- and what holds of each row holds of it
+abbrev pub All : {A : Type 0} → (A → Type 0) → List A → Type 0
+All P [] = Unit {0}
+All P (x ∷ xs) = P x × All P xs
+
+module _ {A : Type 0} (key : A → ℕ) (P : A → Type 0) where
+  all-by : (x : A) (xs : List A) (k : ℕ) (y : A) (t : Bool) → P x → (find key k xs ≡ some y → P y) → cond t (some x) (find key k xs) ≡ some y → P y
+  all-by x xs k y true h ih e = let q : x ≡ y = cc in rw (← q) h
+  all-by x xs k y false h ih e = ih e
+
+  pub find-all : (xs : List A) (k : ℕ) (y : A) → All P xs → find key k xs ≡ some y → P y
+  unfolding find
+  find-all [] k y h e = let z : _≡_ {A = ℕ} 0 1 = cc in absurd (omega arith)
+  find-all (x ∷ xs) k y h e = all-by x xs k y (eqb k (key x)) (h .0) (λ e. find-all xs k y (h .1) e) e
+
 abbrev pub tagOf : Kind → ℕ
 tagOf k = k .tag
 

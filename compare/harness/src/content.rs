@@ -1,0 +1,83 @@
+//! What a message holds, in a form that neither side has: the two sides are brought to it and compared.
+
+#[derive(Clone, PartialEq, Eq, Debug)]
+pub struct RowField {
+    pub name: Vec<u8>,
+    pub table_id: i32,
+    pub column_id: i16,
+    pub type_id: u32,
+    pub type_size: i16,
+    pub type_modifier: i32,
+    pub format_code: i16,
+}
+
+#[derive(Clone, PartialEq, Eq, Debug)]
+pub enum Field {
+    Num(i64),
+    Text(Vec<u8>),
+    Bytes(Vec<u8>),
+    Oids(Vec<u32>),
+    Formats(Vec<i16>),
+    Values(Vec<Option<Vec<u8>>>),
+    Rows(Vec<RowField>),
+    Errors(Vec<(u8, Vec<u8>)>),
+    /// A DataRow as the Rust keeps it: the count, and the bytes after it, not taken apart.
+    Unread(i16, Vec<u8>),
+}
+
+/// A kind by its number (the numbers of host's `numbersOf`) and its fields from left to right.
+#[derive(Clone, PartialEq, Eq, Debug)]
+pub struct Content {
+    pub kind: u8,
+    pub fields: Vec<Field>,
+}
+
+/// A text after the Rust's lossy reading.
+pub fn lossy(text: &[u8]) -> Vec<u8> {
+    String::from_utf8_lossy(text).into_owned().into_bytes()
+}
+
+impl Content {
+    /// The same with each text read as the Rust reads it.
+    pub fn lossy(&self) -> Content {
+        let fields = self
+            .fields
+            .iter()
+            .map(|f| match f {
+                Field::Text(t) => Field::Text(lossy(t)),
+                Field::Rows(rows) => Field::Rows(rows.iter().map(|r| RowField { name: lossy(&r.name), ..r.clone() }).collect()),
+                Field::Errors(errors) => Field::Errors(errors.iter().map(|(c, t)| (*c, lossy(t))).collect()),
+                other => other.clone(),
+            })
+            .collect();
+        Content { kind: self.kind, fields }
+    }
+
+    /// The same with a DataRow's values as the Rust keeps them: joined, each with its length.
+    pub fn unread(&self) -> Content {
+        let fields = self
+            .fields
+            .iter()
+            .map(|f| match f {
+                Field::Values(values) if self.kind == 19 => Field::Unread(values.len() as i16, joined(values)),
+                other => other.clone(),
+            })
+            .collect();
+        Content { kind: self.kind, fields }
+    }
+}
+
+/// Values as they stand on the wire.
+pub fn joined(values: &[Option<Vec<u8>>]) -> Vec<u8> {
+    let mut out = Vec::new();
+    for v in values {
+        match v {
+            None => out.extend_from_slice(&(-1i32).to_be_bytes()),
+            Some(b) => {
+                out.extend_from_slice(&(b.len() as i32).to_be_bytes());
+                out.extend_from_slice(b);
+            }
+        }
+    }
+    out
+}

@@ -1,0 +1,40 @@
+-- A frame is the same for all kinds of one shape: the record that is read of it does not matter.
+use Prim.Native.Nat.{ℕ}
+use mathlib.Core.List.{List}
+use mathlib.Core.Option.{Option, some, none}
+use mathlib.Core.Path.{_≡_, refl, _∙_}
+use Rattle.protocol.specs.declared.Encoded.the-variants as N
+use Rattle.protocol.specs.declared.Encoded.{Encoded}
+use Rattle.protocol.specs.declared.Message.{Message}
+use Rattle.protocol.specs.Each.{Each, ableEach}
+use Rattle.protocol.specs.Encode.{encodedBy, writtenBy, Encodes}
+use Rattle.protocol.specs.Fields.{Field, Content, Slot, able}
+use Rattle.protocol.specs.Kinds.{Kind, Mode}
+use Rattle.protocol.specs.WellFormed.{bodyBytes, frame}
+
+abbrev row : ℕ → ℕ → ℕ → (body : List Field) → (Each Slot body → Message) → Kind
+row tag least limit body message = record { tag = tag; smallest = least; limit = limit; body = body; message = message }
+
+-- in any mode of such frames in which the content can be written as well
+pub asKind : {m : Mode} {tag least limit : ℕ} {body : List Field} {any : Each Slot body → Message} {c : Each Content body} {out left : List ℕ} {r : Encoded}
+    → Encodes m (row tag least limit body any) (some c) out r left → (m′ : Mode) (message : Each Slot body → Message) → m′ .envelope ≡ m .envelope
+    → ableEach (able (record { mode = m′ .mode })) body c ≡ ableEach (able (record { mode = m .mode })) body c
+    → Encodes m′ (row tag least limit body message) (some c) out r left
+unfolding encodedBy writtenBy bodyBytes frame
+asKind {m} {tag} {least} {limit} {body} {any} {c} {out} {left} {r} e m′ message is same =
+    record { answer = e .answer ∙ rw (is, same) refl; output = e .output ∙ by r }
+  where
+    by : (r : Encoded) → writtenBy m (row tag least limit body any) (some c) r out ≡ writtenBy m′ (row tag least limit body message) (some c) r out
+    by (N.Done n) = rw is refl
+    by (N.Refused number place) = refl
+
+-- in the mode itself, also where the content may be none
+pub asKindGiven : {m : Mode} {tag least limit : ℕ} {body : List Field} {any : Each Slot body → Message} {given : Option (Each Content body)} {out left : List ℕ} {r : Encoded}
+    → Encodes m (row tag least limit body any) given out r left → (message : Each Slot body → Message)
+    → Encodes m (row tag least limit body message) given out r left
+unfolding encodedBy writtenBy
+asKindGiven {m} {tag} {least} {limit} {body} {any} {given} {out} {left} {r} e message = by given e
+  where
+    by : (given : Option (Each Content body)) → Encodes m (row tag least limit body any) given out r left → Encodes m (row tag least limit body message) given out r left
+    by none e = record { answer = e .answer; output = e .output }
+    by (some c) e = asKind e m message refl refl

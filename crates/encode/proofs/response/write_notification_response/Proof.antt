@@ -1,0 +1,36 @@
+-- `encode::response::write_notification_response` meets its contract.
+use native.Mathlib.Omega.{arith}
+use borrow.Author.Needs.{needs}
+use denote.Ref.{now}
+use Rattle.protocol.specs.Each.{bytesOfEach}
+use Rattle.protocol.specs.Fields.{bytes, atomBytes}
+use Rattle.protocol.specs.Kinds as K
+use Rattle.protocol.specs.WellFormed.{bodyBytes}
+use Rattle.pen.proofs.Encoding.{framed}
+use Rattle.pen.proofs.Laws.{_then_, nothing}
+use Rattle.encode.specs.Given as G
+use Rattle.encode.proofs.response.write_notification_response.Statement.{statement}
+use Rattle.encode.proofs.response.write_notification_response.Tie as tie
+
+returns : tie.Need-returns
+unfolding K.notificationResponse G.notificationResponse bodyBytes bytesOfEach bytes atomBytes
+returns c = λ z e.
+    let c4 = c .before .before in
+    let c3 = c4 .before .before .before .before in
+    let c2 = c3 .before .before .before .before in
+    let c1 = c2 .before .before .before .before in
+    let s = c1 .before .before .before .before .before in
+    framed K.notificationResponse (z, (now (s .args .channel), (now (s .args .payload), tt))) (c1 .put-head .ensures)
+    (rw e at (c2 .put-word .ensures) then c3 .put-text .ensures then c4 .put-text2 .ensures then nothing)
+    (omega (arith, s .pre))
+
+pub write-notification-response-spec : {M : Type 1} → statement M
+write-notification-response-spec =
+    tie.close
+    (tie.spec
+    (λ c κs. search needs)
+    (λ c κs. search needs)
+    (λ c κs. search needs)
+    (λ c κs. search needs)
+    (λ c. search needs)
+    returns)

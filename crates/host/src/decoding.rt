@@ -1,0 +1,82 @@
+// Decoding, for a host.
+ghost use mathlib.Core.Path.{_≡_};
+ghost use Rattle.protocol.specs.Decode.{decodeOf};
+ghost use Rattle.host.specs.LaidOut.{gssNumber, laidOut, numbersOf, recordOut, sslNumber};
+use crate::rows;
+use protocol::Decoded;
+use protocol::Message;
+use protocol::response::GssEncResponse;
+use protocol::response::SslResponse;
+
+fn record(message: Message, n: usize) -> [usize; 16]
+    ensures { λ r. ⌜ r ≡ recordOut n (numbersOf message) ⌝ }
+{
+    match message {
+        Message::Parse(m) => rows::parse(n, m),
+        Message::Bind(m) => rows::bind(n, m),
+        Message::Close(m) => rows::target(3, n, m.target_type, m.name),
+        Message::Describe(m) => rows::target(4, n, m.target_type, m.name),
+        Message::Execute(m) => rows::execute(n, m),
+        Message::Flush => rows::none(6, n),
+        Message::Sync => rows::none(7, n),
+        Message::CopyDone => rows::none(8, n),
+        Message::CopyData(m) => rows::one_span(9, n, m.data),
+        Message::CopyFail(m) => rows::one_span(10, n, m.message),
+        Message::ParseComplete => rows::none(11, n),
+        Message::BindComplete => rows::none(12, n),
+        Message::CloseComplete => rows::none(13, n),
+        Message::PortalSuspended => rows::none(14, n),
+        Message::NoData => rows::none(15, n),
+        Message::EmptyQueryResponse => rows::none(16, n),
+        Message::RowDescription(m) => rows::one_list(17, n, m.fields),
+        Message::ParameterDescription(m) => rows::one_list(18, n, m.types),
+        Message::DataRow(m) => rows::one_list(19, n, m.data),
+        Message::CommandComplete(m) => rows::one_span(20, n, m.tag),
+        Message::ReadyForQuery(m) => rows::one_number(21, n, m.status as usize),
+        Message::ErrorResponse(m) => rows::one_list(22, n, m.fields),
+        Message::NoticeResponse(m) => rows::one_list(23, n, m.fields),
+        Message::CopyInResponse(m) => rows::copy(24, n, m.format, m.column_formats),
+        Message::CopyOutResponse(m) => rows::copy(25, n, m.format, m.column_formats),
+        Message::CopyBothResponse(m) => rows::copy(26, n, m.format, m.column_formats),
+        Message::NotificationResponse(m) => rows::notification(n, m),
+        Message::CancelRequest(m) => rows::cancel(n, m),
+        Message::SslResponse(answer) => rows::one_number(29, n, ssl_number(answer)),
+        Message::GssEncResponse(answer) => rows::one_number(30, n, gss_number(answer)),
+    }
+}
+
+fn ssl_number(answer: SslResponse) -> usize
+    ensures { λ r. ⌜ r ≡ sslNumber answer ⌝ }
+{
+    match answer {
+        SslResponse::Accept => 0,
+        SslResponse::Refuse => 1,
+    }
+}
+
+fn gss_number(answer: GssEncResponse) -> usize
+    ensures { λ r. ⌜ r ≡ gssNumber answer ⌝ }
+{
+    match answer {
+        GssEncResponse::Accept => 0,
+        GssEncResponse::Refuse => 1,
+    }
+}
+
+fn laid_out(decoded: Decoded) -> [usize; 16]
+    ensures { λ r. ⌜ r ≡ laidOut decoded ⌝ }
+{
+    match decoded {
+        Decoded::Record(message, n) => record(message, n),
+        Decoded::NeedMore => rows::need_more(),
+        Decoded::Refused(number, place) => rows::refused(number, place),
+    }
+}
+
+// The first message of a buffer, as decode::decode answers it.
+#[no_mangle]
+pub extern "C" fn tusweram_decode(mode: u8, buf: &[u8], out: &mut [usize; 16])
+    ensures { λ _. ⌜ now (out .exit) ≡ laidOut (decodeOf (record { mode = mode }) (now (buf .entry))) ⌝ }
+{
+    *out = laid_out(decode::decode(mode, buf));
+}

@@ -1,0 +1,304 @@
+-- Entry i of the two lists that a row was read into is element i, and later entries are as they were.
+use Prim.Native.Nat.{ℕ, zero, suc, _+_, _-_, _/_, _^_, _≤_, _<_}
+use mathlib.Core.Bool.{Bool, true, false, cond, _&&_}
+use mathlib.Core.List.{List, [], _∷_, _++_, map}
+use mathlib.Core.Option.{Option, some, none}
+use mathlib.Core.Path.{_≡_, refl, ap, sym, _∙_}
+use native.Mathlib.Omega.{arith}
+use borrow.Author.Tests.{ltb-true, lt-ltb}
+use lib.Dec.{leb, ltb}
+use lib.IntN.{ℤ, pos, negsuc}
+use lib.ListN.{length, take, drop, length-map}
+use Rattle.protocol.specs.declared.Decoded.the-variants as D
+use Rattle.protocol.specs.declared.Decoded.{Decoded}
+use Rattle.protocol.specs.declared.Element.the-variants as E
+use Rattle.protocol.specs.declared.List.{List as ListSlot}
+use Rattle.protocol.specs.declared.Message.the-variants as M
+use Rattle.protocol.specs.declared.Message.{Message}
+use Rattle.protocol.specs.declared.Rules.{Rules}
+use Rattle.protocol.specs.declared.data.DataRow.{DataRow}
+use Rattle.protocol.specs.declared.Span.{Span}
+use Rattle.protocol.specs.Bytes.{signedOf}
+use Rattle.protocol.specs.Decode.{Header, more, refuse, framed, tagAt, headerOf, bodyBy, closed, decodedBy, decodeBy, decodeOf}
+use Rattle.protocol.specs.Elements.{readItemAt, elementBy, elementAt}
+use Rattle.protocol.specs.Fields.{AtomSlot, itemLeast, signedCount, Slot}
+use Rattle.protocol.specs.Each.{Each}
+use Rattle.protocol.specs.Kinds.{Kind, backend, modeOf, kindIn, find, dataRow, nullable, values, valueElement}
+use Rattle.protocol.specs.Reading.{Read, got, bad, andThen, readNumber, valueAt, readValue, readEach, readCount, readCounted, passItems, read}
+use Rattle.protocol.specs.Refusals.{bytesLeft, outputTooShort}
+use Rattle.protocol.proofs.Counts.{counted-is}
+use Rattle.protocol.proofs.Find.{All, find-all, tagOf}
+use Rattle.protocol.proofs.Framed.{framed-is}
+use Rattle.protocol.proofs.Open.{the-table}
+use Rattle.element.specs.Lists.{listsOf}
+use Rattle.element.proofs.Calls.{answered-as}
+use Rattle.reader.specs.declared.row.Row.the-variants as R
+use Rattle.reader.specs.Row.{Place, lengthWord, startOf, lengthOf, entryOf, placesFrom, rowIn, rowFits, rowBy, over, startsOf, lengthsOf}
+use Rattle.laws.specs.Arguments.{nth}
+use Rattle.laws.specs.ReaderStatements.{elementAs, RowEntries}
+use Rattle.laws.specs.Statements.{theElementCall}
+
+-- ---- lists
+
+nth-map : {A B : Type 0} (f : A → B) (xs : List A) (i : ℕ) (x : A) → nth xs i ≡ some x → nth (map f xs) i ≡ some (f x)
+unfolding nth
+nth-map f [] i x e = let z : _≡_ {A = ℕ} 0 1 = cc in absurd (omega arith)
+nth-map f (y ∷ xs) zero x e = let q : y ≡ x = cc in rw q refl
+nth-map f (y ∷ xs) (suc i) x e = nth-map f xs i x e
+
+nth-front : {A : Type 0} (xs ys : List A) (i : ℕ) (x : A) → nth xs i ≡ some x → nth (xs ++ ys) i ≡ some x
+unfolding nth
+nth-front [] ys i x e = let z : _≡_ {A = ℕ} 0 1 = cc in absurd (omega arith)
+nth-front (y ∷ xs) ys zero x e = e
+nth-front (y ∷ xs) ys (suc i) x e = nth-front xs ys i x e
+
+-- what is laid over a list's start leaves the later ones
+nth-past : {A : Type 0} (xs ys : List A) (i : ℕ) → length xs ≤ i → nth (xs ++ ys) i ≡ nth ys (i - length xs)
+unfolding nth
+nth-past [] ys i h = let e : i - 0 ≡ i = omega arith in rw e refl
+nth-past (x ∷ xs) ys zero h = absurd (omega arith)
+nth-past (x ∷ xs) ys (suc i) h = let e : suc i - suc (length xs) ≡ i - length xs = omega arith in rw e (nth-past xs ys i (omega arith))
+
+nth-drop : {A : Type 0} (n : ℕ) (ys : List A) (i : ℕ) → nth (drop n ys) i ≡ nth ys (n + i)
+unfolding nth
+nth-drop zero ys i = let e : 0 + i ≡ i = omega arith in rw e refl
+nth-drop (suc n) [] i = refl
+nth-drop (suc n) (y ∷ ys) i = let e : suc n + i ≡ suc (n + i) = omega arith in rw e (nth-drop n ys i)
+
+nth-later : {A : Type 0} (xs ys : List A) (i : ℕ) → length xs ≤ i → nth (over xs ys) i ≡ nth ys i
+nth-later xs ys i h =
+    let e : length xs + (i - length xs) ≡ i = omega arith in
+    nth-past xs (drop (length xs) ys) i h ∙ nth-drop (length xs) ys (i - length xs) ∙ ap (nth ys) e
+
+-- ---- values that were passed
+
+signed-below : (n m : ℕ) (t : Bool) → ltb n (256 ^ 4 / 2) ≡ t → cond t (pos n) (negsuc (256 ^ 4 - suc n)) ≡ pos m → m < 2147483648
+signed-below n m true h e = let q : n ≡ m = cc in rw (← q) (ltb-true _ _ h)
+signed-below n m false h e = let z : _≡_ {A = ℕ} 0 1 = cc in absurd (omega arith)
+
+-- a value's length is below the largest signed word
+value-below : (z : ℤ) (f : List ℕ) (p q : ℕ) (v : Span) (e : ℕ) → ((n : ℕ) → z ≡ pos n → n < 2147483648) → valueAt z f p q ≡ got (some v) e → v .len < 2147483648
+unfolding valueAt
+value-below (pos n) f p q v e h g = by (leb (q + n) (length f)) g
+  where
+    by : (t : Bool) → cond t (got (some (record { start = q; len = n })) (q + n)) (bad 6 p) ≡ got (some v) e → v .len < 2147483648
+    by true g = let is : n ≡ v .len = cc in rw (← is) (h n refl)
+    by false g = let z : _≡_ {A = ℕ} 0 1 = cc in absurd (omega arith)
+value-below (negsuc zero) f p q v e h g = let z : _≡_ {A = ℕ} 0 1 = cc in absurd (omega arith)
+value-below (negsuc (suc n)) f p q v e h g = let z : _≡_ {A = ℕ} 0 1 = cc in absurd (omega arith)
+
+length-below : (f : List ℕ) (p : ℕ) (v : Span) (e : ℕ) → readValue f p ≡ got (some v) e → v .len < 2147483648
+unfolding readValue signedOf
+length-below f p v e g = by (readNumber 4 f p) g
+  where
+    by : (r : Read ℕ) → andThen (andThen r (λ n q. got (signedOf 4 n) q)) (λ z q. valueAt z f p q) ≡ got (some v) e → v .len < 2147483648
+    by (got n q) g = value-below (signedOf 4 n) f p q v e (λ m is. signed-below n m (ltb n (256 ^ 4 / 2)) refl is) g
+    by (bad number place) g = let z : _≡_ {A = ℕ} 0 1 = cc in absurd (omega arith)
+
+-- the element of a value is what its entry tells
+told : (v : Option Span) → ((s : Span) → v ≡ some s → s .len < 2147483648) → valueElement v ≡ elementAs (startOf v) (lengthOf v)
+unfolding valueElement
+told none h = refl
+told (some s) h =
+    let e : lengthWord (s .len) ≡ pos (s .len) = rw (lt-ltb _ _ (h s refl)) refl in
+    rw e refl
+
+module _ (rules : Rules) (f : List ℕ) where
+  -- value i of those that were passed
+  record Passed (n p i : ℕ) : Type 0 where
+    value : Option Span
+    next : ℕ
+    item : readItemAt rules nullable i f p ≡ got (value, tt) next
+    place : nth (placesFrom n f p) i ≡ some (record { start = startOf value; length = lengthOf value })
+    below : (s : Span) → value ≡ some s → s .len < 2147483648
+
+  passed-by : (n p q : ℕ) → ((next j : ℕ) → passItems rules nullable n f next ≡ got tt q → j < n → Passed n next j) → (i : ℕ) → i < suc n → (r : Read (Option Span)) → readValue f p ≡ r
+      → andThen (andThen {Y = Each AtomSlot (nullable .atoms)} r (λ s q. got (s, tt) q)) (λ s q. passItems rules nullable n f q) ≡ got tt q → Passed (suc n) p i
+  unfolding passItems placesFrom entryOf nth
+  passed-by n p q rest i h (bad number place) is e = let z : _≡_ {A = ℕ} 0 1 = cc in absurd (omega arith)
+  passed-by n p q rest zero h (got v next) is e = record { value = v; next = next; item = rw is refl; place = rw is refl; below = λ s same. length-below f p s next (is ∙ ap (λ (x : Option Span). got x next) same) }
+  passed-by n p q rest (suc j) h (got v next) is e =
+      let r = rest next j e (omega arith) in
+      record { value = r .value; next = r .next; item = rw is (r .item); place = rw is (r .place); below = r .below }
+
+  passed : (n p q i : ℕ) → passItems rules nullable n f p ≡ got tt q → i < n → Passed n p i
+  unfolding passItems
+  passed zero p q i e h = absurd (omega arith)
+  passed (suc n) p q i e h = passed-by n p q (λ next j. passed n next q j) i h (readValue f p) refl e
+
+  -- and there are so many entries
+  many-by : (n p q : ℕ) → ((next : ℕ) → passItems rules nullable n f next ≡ got tt q → length (placesFrom n f next) ≡ n) → (r : Read (Option Span)) → readValue f p ≡ r
+      → andThen (andThen {Y = Each AtomSlot (nullable .atoms)} r (λ s q. got (s, tt) q)) (λ s q. passItems rules nullable n f q) ≡ got tt q → length (placesFrom (suc n) f p) ≡ suc n
+  unfolding placesFrom entryOf
+  many-by n p q rest (bad number place) is e = let z : _≡_ {A = ℕ} 0 1 = cc in absurd (omega arith)
+  many-by n p q rest (got v next) is e = rw is (ap suc (rest next e))
+
+  many : (n p q : ℕ) → passItems rules nullable n f p ≡ got tt q → length (placesFrom n f p) ≡ n
+  unfolding passItems placesFrom
+  many zero p q e = refl
+  many (suc n) p q e = many-by n p q (λ next. many n next q) (readValue f p) refl e
+
+-- ---- a row that was decoded: its values were passed
+
+abbrev dataOf : DataRow → ListSlot
+dataOf r = r .«data»
+
+module _ (rules : Rules) (f : List ℕ) where
+  pass-by : (p q q′ : ℕ) (l l′ : ListSlot) → readCount signedCount (itemLeast nullable) f p ≡ got l′ q′ → (r : Read (Unit {0})) → passItems rules nullable (l′ .count) f q′ ≡ r → andThen r (λ _ e. got l′ e) ≡ got l q
+      → passItems rules nullable (l .count) f (l .start) ≡ got tt q
+  pass-by p q q′ l l′ c (got t e) is h =
+      let same : l′ ≡ l = cc in
+      let end : e ≡ q = cc in
+      let w = counted-is signedCount (itemLeast nullable) f p q′ l (c ∙ ap (λ (x : ListSlot). got x q′) same) in
+      rw (w .start, ← same, ← end) is
+  pass-by p q q′ l l′ c (bad number place) is h = let z : _≡_ {A = ℕ} 0 1 = cc in absurd (omega arith)
+
+  count-by : (p q : ℕ) (l : ListSlot) (r : Read ListSlot) → readCount signedCount (itemLeast nullable) f p ≡ r → andThen r (λ l q. andThen (passItems rules nullable (l .count) f q) (λ _ e. got l e)) ≡ got l q → passItems rules nullable (l .count) f (l .start) ≡ got tt q
+  count-by p q l (got l′ q′) c h = pass-by p q q′ l l′ c (passItems rules nullable (l′ .count) f q′) refl h
+  count-by p q l (bad number place) c h = let z : _≡_ {A = ℕ} 0 1 = cc in absurd (omega arith)
+
+  -- of a kind whose message is a row: its values were passed
+  abbrev Passes : Kind → Type 0
+  Passes k = (p q : ℕ) (s : Each Slot (k .body)) (r : DataRow) → readEach (read rules) (k .body) f p ≡ got s q → k .message s ≡ M.DataRow r → passItems rules nullable (dataOf r .count) f (dataOf r .start) ≡ got tt q
+
+  row-by : (p q : ℕ) (s : Each Slot (values ∷ [])) (r : Read ListSlot) → readCounted rules signedCount nullable f p ≡ r → andThen {Y = Each Slot (values ∷ [])} r (λ l e. got (l, tt) e) ≡ got s q → passItems rules nullable (s .0 .count) f (s .0 .start) ≡ got tt q
+  unfolding readCounted
+  row-by p q s (got l e) is h =
+      let same : l ≡ s .0 = cc in
+      let end : e ≡ q = cc in
+      rw (← same) (count-by p q l (readCount signedCount (itemLeast nullable) f p) refl (is ∙ ap (got l) end))
+  row-by p q s (bad number place) is h = let z : _≡_ {A = ℕ} 0 1 = cc in absurd (omega arith)
+
+  row-passes : Passes dataRow
+  unfolding dataRow
+  row-passes p q s r e m =
+      let same : s .0 ≡ dataOf r = cc in
+      rw (← same) (row-by p q s (readCounted rules signedCount nullable f p) refl e)
+
+  -- no other kind's message is a row
+  all-pass : All Passes (backend .kinds)
+  unfolding the-table
+  all-pass = (λ p q s r e m. let z : _≡_ {A = ℕ} 0 1 = cc in absurd (omega arith), (λ p q s r e m. let z : _≡_ {A = ℕ} 0 1 = cc in absurd (omega arith), (λ p q s r e m. let z : _≡_ {A = ℕ} 0 1 = cc in absurd (omega arith), (λ p q s r e m. let z : _≡_ {A = ℕ} 0 1 = cc in absurd (omega arith), (λ p q s r e m. let z : _≡_ {A = ℕ} 0 1 = cc in absurd (omega arith), (λ p q s r e m. let z : _≡_ {A = ℕ} 0 1 = cc in absurd (omega arith), (λ p q s r e m. let z : _≡_ {A = ℕ} 0 1 = cc in absurd (omega arith), (λ p q s r e m. let z : _≡_ {A = ℕ} 0 1 = cc in absurd (omega arith), (λ p q s r e m. let z : _≡_ {A = ℕ} 0 1 = cc in absurd (omega arith), (row-passes, (λ p q s r e m. let z : _≡_ {A = ℕ} 0 1 = cc in absurd (omega arith), (λ p q s r e m. let z : _≡_ {A = ℕ} 0 1 = cc in absurd (omega arith), (λ p q s r e m. let z : _≡_ {A = ℕ} 0 1 = cc in absurd (omega arith), (λ p q s r e m. let z : _≡_ {A = ℕ} 0 1 = cc in absurd (omega arith), (λ p q s r e m. let z : _≡_ {A = ℕ} 0 1 = cc in absurd (omega arith), (λ p q s r e m. let z : _≡_ {A = ℕ} 0 1 = cc in absurd (omega arith), (λ p q s r e m. let z : _≡_ {A = ℕ} 0 1 = cc in absurd (omega arith), (λ p q s r e m. let z : _≡_ {A = ℕ} 0 1 = cc in absurd (omega arith), (λ p q s r e m. let z : _≡_ {A = ℕ} 0 1 = cc in absurd (omega arith), tt)))))))))))))))))))
+
+abbrev fromBackend : Rules
+fromBackend = record { mode = 1 }
+
+module _ (s : List ℕ) (row : DataRow) (n : ℕ) where
+  abbrev Were : Type 0
+  Were = (q : ℕ) × (passItems fromBackend nullable (dataOf row .count) (take n s) (dataOf row .start) ≡ got tt q)
+
+  kind-passes : (k : Kind) (a b : ℕ) → headerOf fromBackend s ≡ framed k a b → Passes fromBackend (take b s) k
+  unfolding modeOf kindIn find the-table
+  kind-passes k a b e =
+      let w = framed-is fromBackend s k a b e in
+      let mode : w .mode ≡ backend = let known = w .known in cc in
+      find-all tagOf (Passes fromBackend (take b s)) (backend .kinds) (tagAt (backend .envelope) s) k (all-pass fromBackend (take b s)) (rw mode at (w .tag))
+
+  by-end : (k : Kind) (a b : ℕ) → headerOf fromBackend s ≡ framed k a b → (v : Each Slot (k .body)) (q : ℕ) → readEach (read fromBackend) (k .body) (take b s) a ≡ got v q
+      → (t : Bool) → decodedBy (bodyBy (cond t (bad bytesLeft q) (got (k .message v) q))) b ≡ D.Record (M.DataRow row) n → Were
+  unfolding decodedBy
+  by-end k a b e v q r true d = let z : _≡_ {A = ℕ} 0 1 = cc in absurd (omega arith)
+  by-end k a b e v q r false d =
+      let is : k .message v ≡ M.DataRow row = cc in
+      let end : b ≡ n = cc in
+      (q, rw (← end) (kind-passes k a b e a q v row r is))
+
+  by-body : (k : Kind) (a b : ℕ) → headerOf fromBackend s ≡ framed k a b → (r : Read (Each Slot (k .body))) → readEach (read fromBackend) (k .body) (take b s) a ≡ r
+      → decodedBy (bodyBy (andThen r (λ v q. closed (take b s) q (k .message v)))) b ≡ D.Record (M.DataRow row) n → Were
+  unfolding closed decodedBy
+  by-body k a b e (got v q) r d = by-end k a b e v q r (ltb q (length (take b s))) d
+  by-body k a b e (bad number place) r d = let z : _≡_ {A = ℕ} 0 1 = cc in absurd (omega arith)
+
+  by-header : (h : Header) → headerOf fromBackend s ≡ h → decodeBy fromBackend s h ≡ D.Record (M.DataRow row) n → Were
+  unfolding decodeBy
+  by-header more e d = let z : _≡_ {A = ℕ} 0 1 = cc in absurd (omega arith)
+  by-header (refuse number place) e d = let z : _≡_ {A = ℕ} 0 1 = cc in absurd (omega arith)
+  by-header (framed k a b) e d = by-body k a b e (readEach (read fromBackend) (k .body) (take b s) a) refl d
+
+  values-passed : decodeOf fromBackend s ≡ D.Record (M.DataRow row) n → Were
+  unfolding decodeOf
+  values-passed d = by-header (headerOf fromBackend s) refl d
+
+-- ---- the theorem
+
+-- an answer that is a row comes from a row that was decoded
+fits-by : (o : Option ListSlot) (consumed starts lengths : ℕ) (l : ListSlot) (n : ℕ) → R.Is l n ≡ rowFits o consumed starts lengths → (o ≡ some l) × (consumed ≡ n)
+unfolding rowFits
+fits-by none consumed starts lengths l n e = let z : _≡_ {A = ℕ} 0 1 = cc in absurd (omega arith)
+fits-by (some x) consumed starts lengths l n e = by (leb (x .count) starts && leb (x .count) lengths) e
+  where
+    by : (t : Bool) → R.Is l n ≡ cond t (R.Is x consumed) (R.Refused outputTooShort 0) → (_≡_ {A = Option ListSlot} (some x) (some l)) × (consumed ≡ n)
+    by true q = let same : x ≡ l = cc in (ap some same, cc)
+    by false q = let z : _≡_ {A = ℕ} 0 1 = cc in absurd (omega arith)
+
+is-row : (m : Message) (l : ListSlot) → rowIn m ≡ some l → (row : DataRow) × (m ≡ M.DataRow row) × (dataOf row ≡ l)
+is-row (M.DataRow row) l e = (row, refl, cc)
+is-row (M.Parse r) l e = let z : _≡_ {A = ℕ} 0 1 = cc in absurd (omega arith)
+is-row (M.Bind r) l e = let z : _≡_ {A = ℕ} 0 1 = cc in absurd (omega arith)
+is-row (M.Close r) l e = let z : _≡_ {A = ℕ} 0 1 = cc in absurd (omega arith)
+is-row (M.Describe r) l e = let z : _≡_ {A = ℕ} 0 1 = cc in absurd (omega arith)
+is-row (M.Execute r) l e = let z : _≡_ {A = ℕ} 0 1 = cc in absurd (omega arith)
+is-row (M.CopyData r) l e = let z : _≡_ {A = ℕ} 0 1 = cc in absurd (omega arith)
+is-row (M.CopyFail r) l e = let z : _≡_ {A = ℕ} 0 1 = cc in absurd (omega arith)
+is-row (M.RowDescription r) l e = let z : _≡_ {A = ℕ} 0 1 = cc in absurd (omega arith)
+is-row (M.ParameterDescription r) l e = let z : _≡_ {A = ℕ} 0 1 = cc in absurd (omega arith)
+is-row (M.CommandComplete r) l e = let z : _≡_ {A = ℕ} 0 1 = cc in absurd (omega arith)
+is-row (M.ReadyForQuery r) l e = let z : _≡_ {A = ℕ} 0 1 = cc in absurd (omega arith)
+is-row (M.ErrorResponse r) l e = let z : _≡_ {A = ℕ} 0 1 = cc in absurd (omega arith)
+is-row (M.NoticeResponse r) l e = let z : _≡_ {A = ℕ} 0 1 = cc in absurd (omega arith)
+is-row (M.CopyInResponse r) l e = let z : _≡_ {A = ℕ} 0 1 = cc in absurd (omega arith)
+is-row (M.CopyOutResponse r) l e = let z : _≡_ {A = ℕ} 0 1 = cc in absurd (omega arith)
+is-row (M.CopyBothResponse r) l e = let z : _≡_ {A = ℕ} 0 1 = cc in absurd (omega arith)
+is-row (M.NotificationResponse r) l e = let z : _≡_ {A = ℕ} 0 1 = cc in absurd (omega arith)
+is-row (M.CancelRequest r) l e = let z : _≡_ {A = ℕ} 0 1 = cc in absurd (omega arith)
+is-row (M.SslResponse r) l e = let z : _≡_ {A = ℕ} 0 1 = cc in absurd (omega arith)
+is-row (M.GssEncResponse r) l e = let z : _≡_ {A = ℕ} 0 1 = cc in absurd (omega arith)
+is-row M.Flush l e = let z : _≡_ {A = ℕ} 0 1 = cc in absurd (omega arith)
+is-row M.Sync l e = let z : _≡_ {A = ℕ} 0 1 = cc in absurd (omega arith)
+is-row M.CopyDone l e = let z : _≡_ {A = ℕ} 0 1 = cc in absurd (omega arith)
+is-row M.ParseComplete l e = let z : _≡_ {A = ℕ} 0 1 = cc in absurd (omega arith)
+is-row M.BindComplete l e = let z : _≡_ {A = ℕ} 0 1 = cc in absurd (omega arith)
+is-row M.CloseComplete l e = let z : _≡_ {A = ℕ} 0 1 = cc in absurd (omega arith)
+is-row M.PortalSuspended l e = let z : _≡_ {A = ℕ} 0 1 = cc in absurd (omega arith)
+is-row M.NoData l e = let z : _≡_ {A = ℕ} 0 1 = cc in absurd (omega arith)
+is-row M.EmptyQueryResponse l e = let z : _≡_ {A = ℕ} 0 1 = cc in absurd (omega arith)
+
+record Decoded-row (s : List ℕ) (l : ListSlot) (n : ℕ) : Type 0 where
+  row : DataRow
+  is : decodeOf fromBackend s ≡ D.Record (M.DataRow row) n
+  list : dataOf row ≡ l
+
+decoded-row : (s : List ℕ) (d : Decoded) (starts lengths : ℕ) (l : ListSlot) (n : ℕ) → decodeOf fromBackend s ≡ d → R.Is l n ≡ rowBy d starts lengths → Decoded-row s l n
+unfolding rowBy
+decoded-row s (D.Record m k) starts lengths l n e q =
+    let f = fits-by (rowIn m) k starts lengths l n q in
+    let r = is-row m l (f .0) in
+    record { row = r .0; is = e ∙ ap (λ (x : Message). D.Record x k) (r .1) ∙ ap (D.Record (M.DataRow (r .0))) (f .1); list = r .2 }
+decoded-row s D.NeedMore starts lengths l n e q = let z : _≡_ {A = ℕ} 0 1 = cc in absurd (omega arith)
+decoded-row s (D.Refused number place) starts lengths l n e q = let z : _≡_ {A = ℕ} 0 1 = cc in absurd (omega arith)
+
+-- the element of a value that was passed
+element-is : (f : List ℕ) (l : ListSlot) (i : ℕ) → i < l .count → (w : Passed fromBackend f (l .count) (l .start) i) → elementAt fromBackend f i (some (record { item = nullable; list = l })) ≡ elementAs (startOf (w .value)) (lengthOf (w .value))
+unfolding elementAt elementBy
+element-is f l i h w = rw (lt-ltb _ _ h, w .item) (told (w .value) (w .below))
+
+pub row-entries : RowEntries theElementCall
+unfolding listsOf
+row-entries s starts₀ starts₁ lengths₀ lengths₁ l n e =
+    let d = decoded-row s (decodeOf fromBackend s) (length starts₀) (length lengths₀) l n refl (e .answer) in
+    let f = take n s in
+    let ok = rw (d .list) at (values-passed s (d .row) n (d .is) .1) in
+    let count = many fromBackend f (l .count) (l .start) _ ok in
+    let elements = answered-as fromBackend s 0 (D.Record (M.DataRow (d .row)) n) (d .is) .2 in
+    record {
+      entry = λ i h.
+          let w = passed fromBackend f (l .count) (l .start) _ i ok h in (
+            startOf (w .value),
+            lengthOf (w .value),
+            rw (e .starts) (nth-front _ _ i _ (nth-map (λ (x : Place). x .start) _ i _ (w .place))),
+            rw (e .lengths) (nth-front _ _ i _ (nth-map (λ (x : Place). x .length) _ i _ (w .place))),
+            sym (elements i) ∙ rw (d .list) (element-is f l i h w),
+          );
+      starts = λ i h. rw (e .starts) (nth-later (startsOf (placesFrom (l .count) f (l .start))) starts₀ i (simp length-map (omega (arith, count))));
+      lengths = λ i h. rw (e .lengths) (nth-later (lengthsOf (placesFrom (l .count) f (l .start))) lengths₀ i (simp length-map (omega (arith, count))));
+    }

@@ -1,0 +1,6 @@
+pub mod Writing
+pub mod Steps
+pub mod Digits
+pub mod Openings
+pub mod Filling
+pub mod Printed

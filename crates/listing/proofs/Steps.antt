@@ -1,0 +1,76 @@
+-- What stands at a place of a stream.
+use Prim.Native.Nat.{ℕ, _+_, _-_, _<_, _≤_}
+use mathlib.Core.Bool.{Bool, true, false, cond}
+use mathlib.Core.List.{List}
+use mathlib.Core.Path.{_≡_, refl, ap, _∙_}
+use native.Mathlib.Omega.{arith}
+use borrow.Author.Tests.{le-leb, lt-leb, leb-false}
+use lib.Dec.{leb}
+use lib.ListN.{length, take, drop, length-drop}
+use lib.Seq.{take-all}
+use Rattle.protocol.specs.declared.Body.the-variants as B
+use Rattle.protocol.specs.declared.Body.{Body}
+use Rattle.protocol.specs.declared.Decoded.the-variants as D
+use Rattle.protocol.specs.declared.Decoded.{Decoded}
+use Rattle.protocol.specs.declared.Message.{Message}
+use Rattle.protocol.specs.declared.Rules.{Rules}
+use Rattle.protocol.specs.Decode.{Header, more, refuse, framed, headerOf, decodedBy, decodeBy, decodeOf}
+use Rattle.protocol.specs.Kinds.{Envelope, typed, untyped, bare}
+use Rattle.protocol.specs.Stream.{frame, stop, whole, stepBy, stepAt}
+use Rattle.protocol.specs.WellFormed.{bodyStart}
+use Rattle.protocol.proofs.Framed.{framed-is, framed-ends}
+
+module _ (rules : Rules) (s : List ℕ) (p : ℕ) where
+  -- no byte is left there
+  pub step-over : length s ≤ p → stop whole ≡ stepAt rules s p
+  unfolding stepAt
+  step-over h = rw (le-leb (length s) p h) refl
+
+  -- what decoding answers of the bytes from there on
+  pub step-within : (d : Decoded) → p < length s → d ≡ decodeOf rules (take (length s - p) (drop p s)) → stepBy d ≡ stepAt rules s p
+  unfolding stepAt
+  step-within d h e =
+      rw (lt-leb (length s) p h) (ap stepBy (e ∙ ap (decodeOf rules) (take-all (length s - p) (drop p s) (simp length-drop (omega arith)))))
+
+-- ---- a frame has a byte at least, and ends within the stream
+
+body-is : (b : Body) (end : ℕ) {m : Message} {n : ℕ} → decodedBy b end ≡ D.Record m n → end ≡ n
+unfolding decodedBy
+body-is (B.Is x) end e = cc
+body-is (B.Refused number place) end e = let z : _≡_ {A = ℕ} 0 1 = cc in absurd (omega arith)
+
+starts : (e : Envelope) → 1 ≤ bodyStart e
+starts typed = omega arith
+starts untyped = omega arith
+starts bare = omega arith
+
+size-by : (rules : Rules) (s : List ℕ) (h : Header) {m : Message} {n : ℕ} → headerOf rules s ≡ h → decodeBy rules s h ≡ D.Record m n → (1 ≤ n) × (n ≤ length s)
+unfolding decodeBy
+size-by rules s more q e = let z : _≡_ {A = ℕ} 0 1 = cc in absurd (omega arith)
+size-by rules s (refuse number place) q e = let z : _≡_ {A = ℕ} 0 1 = cc in absurd (omega arith)
+size-by rules s (framed k start end) q e =
+    let f = framed-is rules s k start end q in
+    let b = framed-ends rules s k start end f in
+    let x = body-is _ end e in
+    (omega (arith, b .0, starts (f .mode .envelope)), omega (arith, b .1))
+
+record-size : (rules : Rules) (s : List ℕ) {m : Message} {n : ℕ} → decodeOf rules s ≡ D.Record m n → (1 ≤ n) × (n ≤ length s)
+unfolding decodeOf
+record-size rules s e = size-by rules s (headerOf rules s) refl e
+
+decoded-is : (d : Decoded) {m : Message} {n : ℕ} → stepBy d ≡ frame m n → d ≡ D.Record m n
+unfolding stepBy
+decoded-is (D.Record x k) e = cc
+decoded-is D.NeedMore e = let z : _≡_ {A = ℕ} 0 1 = cc in absurd (omega arith)
+decoded-is (D.Refused number place) e = let z : _≡_ {A = ℕ} 0 1 = cc in absurd (omega arith)
+
+chosen : (t : Bool) (d : Decoded) {m : Message} {n : ℕ} → cond t (stop whole) (stepBy d) ≡ frame m n → (t ≡ false) × (d ≡ D.Record m n)
+chosen true d e = let z : _≡_ {A = ℕ} 0 1 = cc in absurd (omega arith)
+chosen false d e = (refl, decoded-is d e)
+
+pub frame-size : (rules : Rules) (s : List ℕ) (p : ℕ) {m : Message} {n : ℕ} → stepAt rules s p ≡ frame m n → (1 ≤ n) × (p + n ≤ length s)
+unfolding stepAt
+frame-size rules s p e =
+    let c = chosen (leb (length s) p) (decodeOf rules (drop p s)) e in
+    let z = record-size rules (drop p s) (c .1) in
+    (z .0, omega (arith, leb-false (length s) p (c .0), z .1, length-drop p s))

@@ -1,0 +1,112 @@
+-- `pen::errors::put_errors` meets its contract.
+use Prim.Native.Nat.{_+_, _*_, _-_, _≤_}
+use mathlib.Core.Bool.{true}
+use mathlib.Core.Path.{_≡_, refl, ap, _∙_, sym}
+use native.Mathlib.Omega.{arith}
+use borrow.Author.Needs.{needs}
+use lib.ListN.{length, getD, drop, length-take, length-drop}
+use Rattle.protocol.specs.Encode.{errorFieldsGiven}
+use Rattle.pen.specs.Given.{isSome}
+use Rattle.pen.specs.Writing.{write}
+use Rattle.pen.proofs.Laws.{turn, _then_}
+use Rattle.pen.proofs.ErrorLaws.{errors-many, error-right, error-over, errorsBytes, errors-more, errors-none, errors-field}
+use Rattle.pen.proofs.errors.put_errors.Statement.{statement}
+use Rattle.pen.proofs.errors.put_errors.Tie as tie
+
+-- what is left to write
+abbrev Inv-loop : tie.InvT-loop
+Inv-loop out₀ at codes lengths joined p₀ i₀ j₀ out p i j =
+    (length codes ≡ length lengths) × (i ≤ length lengths) × (j ≤ length joined) × (p ≡ at + 2 * i + j) × (length out ≡ length out₀)
+    × (isSome (errorFieldsGiven (drop i codes) (drop i lengths) (drop j joined)) ≡ true)
+    × (write out p (errorsBytes (drop i codes) (drop i lengths) (drop j joined)) ≡ write out₀ at (errorsBytes codes lengths joined))
+
+abbrev μ-loop : tie.MeasureT-loop
+μ-loop out₀ at codes lengths joined p₀ i₀ j₀ out p i j = length lengths - i
+
+loop-holds : tie.Need-loop-holds Inv-loop μ-loop
+loop-holds c =
+    let s = c .before .before .before .before in
+    let a = s .args in
+    (errors-many (a .codes .now) (a .lengths .now) (a .joined .now) (s .pre .1), omega arith, omega arith, omega arith, refl, s .pre .1, refl)
+
+-- the string at hand is within what is left
+right : (c : tie.In-loop Inv-loop μ-loop) → let q = c .before .loop in
+    let a = c .before .before .before .before .before .before .args in
+    let n = getD (a .lengths .now) (q .i) 0 in
+    (n ≤ length (a .joined .now) - q .j)
+    × (isSome (errorFieldsGiven (drop (q .i + 1) (a .codes .now)) (drop (q .i + 1) (a .lengths .now)) (drop (q .j + n) (a .joined .now))) ≡ true)
+right c =
+    let q = c .before .loop in
+    let a = c .before .before .before .before .before .before .args in
+    error-right (a .codes .now) (a .lengths .now) (a .joined .now) (q .i) (q .j) (c .loop-test .taken) (q .inv .0) (q .inv .5)
+
+cast-e : tie.Need-cast-e Inv-loop μ-loop
+cast-e c = let f = c .shared-slice-known4 .given (c .before .before .loop .i) in record { fits = omega (arith, f .fits) }
+
+add-e : tie.Need-add-e Inv-loop μ-loop
+add-e c = omega (arith, right (c .before) .0)
+
+part-put-text-end : tie.Need-part-put-text-end Inv-loop μ-loop
+part-put-text-end c = omega (arith, right (c .before .before .before .before .before .before .before) .0)
+
+put-text-requires : tie.Need-put-text-requires Inv-loop μ-loop
+put-text-requires c κs =
+    simp (length-take, length-drop) (omega (arith, right (c .before .before .before .before .before .before .before .before) .0))
+
+loop-again : tie.Need-loop-again Inv-loop μ-loop
+loop-again c =
+    let b = c .before .before in
+    let w = b .before .before .before .before .before in
+    let t = w .before .before .before .before in
+    let q = t .before .loop in
+    let a = t .before .before .before .before .before .before .args in
+    let n = getD (a .lengths .now) (q .i) 0 in
+    let r = right t in
+    let p = simp (length-take, length-drop) at (b .put-text .ensures .place) in
+    let v = errors-more (a .codes .now) (a .lengths .now) (a .joined .now) (q .i) (q .j) (t .loop-test .taken) (q .inv .0) in (
+      q .inv .0,
+      search needs,
+      omega (arith, r .0),
+      omega (arith, r .0),
+      omega arith,
+      r .1,
+      turn (errorsBytes (drop (q .i + 1) (a .codes .now)) (drop (q .i + 1) (a .lengths .now)) (drop (q .j + n) (a .joined .now)))
+          (w .put-byte .ensures then b .put-text .ensures)
+          (ap (write (q .out) (q .p)) (sym v) ∙ q .inv .6),
+    )
+
+returns : tie.Need-returns Inv-loop μ-loop
+returns c =
+    let w = c .before .before in
+    let t = w .before .before in
+    let q = t .before .loop in
+    let k = t .before .before .before .before in
+    let a = k .before .before .args in
+    let none = errors-none (a .codes .now) (a .lengths .now) (drop (q .j) (a .joined .now)) (q .i) (t .loop-test .left) (q .inv .0) in
+    let all = error-over (a .codes .now) (a .lengths .now) (a .joined .now) (q .i) (q .j) (t .loop-test .left) (q .inv .0) (q .inv .2) (q .inv .5) in
+    errors-field (a .codes .now) (a .lengths .now) (a .joined .now) (λ i. k .shared-slice-known .given i .fits)
+    (rw none at (q .inv .6)) (omega (arith, all)) (w .put-byte2 .ensures)
+
+pub put-errors-spec : {M : Type 1} → statement M
+put-errors-spec =
+    tie.close
+    (tie.spec
+    Inv-loop
+    μ-loop
+    loop-holds
+    (λ c. search needs)
+    (λ c. search needs)
+    cast-e
+    add-e
+    (λ c. search needs)
+    (λ c κs. search needs)
+    (λ c. search needs)
+    (λ c. search needs)
+    part-put-text-end
+    put-text-requires
+    (λ c. search needs)
+    (λ c. search needs)
+    loop-again
+    (λ c κs. search needs)
+    (λ c. search needs)
+    returns)

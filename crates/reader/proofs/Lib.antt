@@ -1,0 +1,3 @@
+pub mod Thin
+pub mod Rows
+pub mod Places

@@ -1,0 +1,166 @@
+// A case, read letter by letter: "MODE HH HH .. = N N .. | the Rust's answer in words". HH is a byte in hexadecimal digits, and the N are the
+// numbers that tusweram_decode is to give, without the zeros at their end. Whatever has another form is malformed.
+
+// Room for a frame.
+pub const ROOM: usize = 128;
+
+// How many numbers an answer has.
+pub const ROW: usize = 16;
+
+const IN_MODE: u8 = 0;
+
+const IN_BYTES: u8 = 1;
+
+const IN_NUMBERS: u8 = 2;
+
+const IN_WORDS: u8 = 3;
+
+const MALFORMED: u8 = 4;
+
+const NO_DIGIT: u8 = 16;
+
+pub struct Case {
+    // What is being read.
+    pub part: u8,
+    pub mode: u8,
+    // How many bytes the frame has so far, and the first digit of the next one.
+    pub count: usize,
+    pub high: u8,
+    // How many numbers there are so far, and the next one with how many digits it has.
+    pub index: usize,
+    pub number: usize,
+    pub digits: u8,
+}
+
+pub fn start() -> Case {
+    Case {
+        part: IN_MODE,
+        mode: 0,
+        count: 0,
+        high: NO_DIGIT,
+        index: 0,
+        number: 0,
+        digits: 0,
+    }
+}
+
+// A line that has all its parts.
+pub fn is_whole(case: Case) -> bool {
+    case.part == IN_WORDS
+}
+
+fn to_part(case: Case, part: u8) -> Case {
+    let mut case = case;
+    case.part = part;
+    case
+}
+
+fn digit(letter: u8) -> u8 {
+    match letter {
+        b'0'..=b'9' => letter - b'0',
+        b'A'..=b'F' => letter - b'A' + 10,
+        _ => NO_DIGIT,
+    }
+}
+
+fn in_mode(case: Case, letter: u8) -> Case {
+    let mut case = case;
+    if letter == b' ' {
+        return to_part(case, IN_BYTES);
+    }
+    let value = digit(letter);
+    if 9 < value {
+        return to_part(case, MALFORMED);
+    }
+    case.mode = value;
+    case
+}
+
+// A byte's second digit, where there is room for the byte.
+fn with_byte(case: Case, low: u8, frame: &mut [u8; ROOM]) -> Case {
+    let mut case = case;
+    let high = case.high;
+    let count = case.count;
+    if ROOM <= count {
+        return to_part(case, MALFORMED);
+    }
+    if 15 < high {
+        return to_part(case, MALFORMED);
+    }
+    if 15 < low {
+        return to_part(case, MALFORMED);
+    }
+    frame[count] = high * 16 + low;
+    case.count = count + 1;
+    case.high = NO_DIGIT;
+    case
+}
+
+fn in_bytes(case: Case, letter: u8, frame: &mut [u8; ROOM]) -> Case {
+    let mut case = case;
+    match letter {
+        b' ' => case,
+        b'=' => to_part(case, IN_NUMBERS),
+        _ => {
+            let value = digit(letter);
+            if case.high != NO_DIGIT {
+                return with_byte(case, value, frame);
+            }
+            if value == NO_DIGIT {
+                return to_part(case, MALFORMED);
+            }
+            case.high = value;
+            case
+        }
+    }
+}
+
+// The number that a space ends, if there is one.
+fn with_number(case: Case, expected: &mut [usize; ROW]) -> Case {
+    let mut case = case;
+    let index = case.index;
+    if case.digits == 0 {
+        return case;
+    }
+    if ROW <= index {
+        return to_part(case, MALFORMED);
+    }
+    expected[index] = case.number;
+    case.index = index + 1;
+    case.number = 0;
+    case.digits = 0;
+    case
+}
+
+// Twelve digits are enough: a number is at most 32 bits, and the sum does not wrap.
+fn with_digit(case: Case, value: u8) -> Case {
+    let mut case = case;
+    let number = case.number;
+    if 99999999999 < number {
+        return to_part(case, MALFORMED);
+    }
+    if 9 < value {
+        return to_part(case, MALFORMED);
+    }
+    case.number = number * 10 + (value as usize);
+    case.digits = 1;
+    case
+}
+
+fn in_numbers(case: Case, letter: u8, expected: &mut [usize; ROW]) -> Case {
+    match letter {
+        b' ' => with_number(case, expected),
+        b'|' => to_part(case, IN_WORDS),
+        _ => with_digit(case, digit(letter)),
+    }
+}
+
+pub fn step(case: Case, letter: u8, frame: &mut [u8; ROOM], expected: &mut [usize; ROW]) -> Case {
+    let part = case.part;
+    match part {
+        IN_MODE => in_mode(case, letter),
+        IN_BYTES => in_bytes(case, letter, frame),
+        IN_NUMBERS => in_numbers(case, letter, expected),
+        _ => case,
+    }
+}

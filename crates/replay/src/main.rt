@@ -1,0 +1,128 @@
+// The fixed list of the comparison with the Rust, run through the library: each line holds a case, the numbers that document 01 says, worked out
+// by the comparison's model, and what the Rust answered. Here the library's numbers are compared with them.
+mod case;
+
+use case::Case;
+use case::ROOM;
+use case::ROW;
+use libc::STDIN_FILENO;
+use libc::STDOUT_FILENO;
+
+// The list is read in so many pieces of 65,536 letters, more than it has.
+const PIECES: usize = 32;
+
+// More than it has letters.
+const MOST: usize = 2097152;
+
+fn write(bytes: &[u8]) {
+    io::write_all(STDOUT_FILENO, bytes);
+}
+
+fn write_number(n: usize) {
+    io::print_decimal(STDOUT_FILENO, n as u64);
+}
+
+fn are_equal(got: &[usize; ROW], expected: &[usize; ROW]) -> bool {
+    for i in 0..ROW {
+        if got[i] != expected[i] {
+            return false;
+        }
+    }
+    true
+}
+
+// Whether the library gives the case's numbers.
+fn holds(case: Case, frame: &[u8; ROOM], expected: &[usize; ROW]) -> bool {
+    let mut got = [0usize; ROW];
+    host::decoding::tusweram_decode(case.mode, decode::part(frame, 0, case.count), &mut got);
+    if !case::is_whole(case) {
+        return false;
+    }
+    are_equal(&got, expected)
+}
+
+fn report(line: usize) {
+    write(b"line ");
+    write_number(line);
+    write(b" is wrong\n");
+}
+
+// One more. There are fewer lines than letters.
+fn next(n: usize) -> usize {
+    if n < MOST { n + 1 } else { n }
+}
+
+// How far the list is read: the line that is being read, how many are, and how many of them do not hold.
+struct Tally {
+    case: Case,
+    lines: usize,
+    wrong: usize,
+}
+
+// A whole line.
+fn with_line(tally: Tally, frame: &[u8; ROOM], expected: &[usize; ROW]) -> Tally {
+    let lines = next(tally.lines);
+    let case = case::start();
+    if holds(tally.case, frame, expected) {
+        let wrong = tally.wrong;
+        return Tally { case, lines, wrong };
+    }
+    report(lines);
+    let wrong = next(tally.wrong);
+    Tally { case, lines, wrong }
+}
+
+fn with_letter(
+    tally: Tally,
+    letter: u8,
+    frame: &mut [u8; ROOM],
+    expected: &mut [usize; ROW],
+) -> Tally {
+    if letter == b'\n' {
+        let tally = with_line(tally, frame, expected);
+        *expected = [0usize; ROW];
+        return tally;
+    }
+    let case = case::step(tally.case, letter, frame, expected);
+    let lines = tally.lines;
+    let wrong = tally.wrong;
+    Tally { case, lines, wrong }
+}
+
+fn with_letters(
+    tally: Tally,
+    letters: &[u8],
+    frame: &mut [u8; ROOM],
+    expected: &mut [usize; ROW],
+) -> Tally {
+    let mut tally = tally;
+    for i in 0..letters.len() {
+        tally = with_letter(tally, letters[i], frame, expected);
+    }
+    tally
+}
+
+// The next piece of the list, which is empty behind its end.
+fn with_piece(tally: Tally, frame: &mut [u8; ROOM], expected: &mut [usize; ROW]) -> Tally {
+    let mut input = io::large_buffer();
+    let count = io::read_full(STDIN_FILENO, &mut input);
+    with_letters(tally, &input[..count], frame, expected)
+}
+
+fn main() {
+    let mut frame = [0u8; ROOM];
+    let mut expected = [0usize; ROW];
+    let case = case::start();
+    let mut tally = Tally {
+        case,
+        lines: 0,
+        wrong: 0,
+    };
+    for _ in 0..PIECES {
+        tally = with_piece(tally, &mut frame, &mut expected);
+    }
+    write_number(tally.lines);
+    write(b" cases, ");
+    write_number(tally.wrong);
+    write(b" wrong\n");
+}
