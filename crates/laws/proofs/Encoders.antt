@@ -112,4 +112,4 @@ unfolding K.cancelRequest G.cancelRequest HoldsEach InRange AtomInRange
 cancelRequest pid key i k c e = here e (i, (k, tt))
 
 pub given-in-range : GivenInRange
-given-in-range = record { parse = parse; bind = bind; close = close; describe = describe; execute = execute; copyData = copyData; copyFail = copyFail; copyInResponse = copyInResponse; copyOutResponse = copyOutResponse; copyBothResponse = copyBothResponse; rowDescription = rowDescription; parameterDescription = parameterDescription; dataRow = dataRow; commandComplete = commandComplete; readyForQuery = readyForQuery; errorResponse = errorResponse; noticeResponse = noticeResponse; notificationResponse = notificationResponse; cancelRequest = cancelRequest; }
+given-in-range = record { parse = parse; bind = bind; close = close; describe = describe; execute = execute; copyData = copyData; copyFail = copyFail; copyInResponse = copyInResponse; copyOutResponse = copyOutResponse; copyBothResponse = copyBothResponse; rowDescription = rowDescription; parameterDescription = parameterDescription; dataRow = dataRow; commandComplete = commandComplete; readyForQuery = readyForQuery; errorResponse = errorResponse; noticeResponse = noticeResponse; notificationResponse = notificationResponse; cancelRequest = cancelRequest }

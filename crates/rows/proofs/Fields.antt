@@ -1,8 +1,8 @@
 -- One field: its name's length, and its turn in a pass.
-use Prim.Native.Nat.{ℕ, _+_, _≤_, _<_, min}
-use mathlib.Core.Bool.{Bool, true, false, cond, _&&_}
+use Prim.Native.Nat.{ℕ, _+_, _≤_, _<_}
+use mathlib.Core.Bool.{Bool, true, false, _&&_}
 use mathlib.Core.List.{List}
-use mathlib.Core.Path.{_≡_, refl, ap, _∙_, sym}
+use mathlib.Core.Path.{_≡_, refl, _∙_, sym}
 use native.Mathlib.Omega.{arith}
 use borrow.Author.Tests.{leb-true}
 use lib.Dec.{leb}
@@ -13,6 +13,7 @@ use Rattle.protocol.specs.Encode.{rowFieldGiven}
 use Rattle.protocol.specs.Fields.{itemBytes}
 use Rattle.protocol.specs.Kinds.{rowField}
 use Rattle.pen.specs.Writing.{write, Wrote}
+use Rattle.pen.proofs.GivenLaws.{and-left}
 use Rattle.pen.proofs.Lists.{and-right}
 use Rattle.rows.specs.declared.Pen.{Pen}
 use Rattle.rows.specs.Passes.{named, after, stepPen, stepOut}
@@ -22,10 +23,6 @@ part-length xs s n h = omega (arith, length-take n (drop s xs), length-drop s xs
 
 pub resized : {d xs left : List ℕ} {p n m next : ℕ} → Wrote d p xs n left next → n ≡ m → Wrote d p xs m left next
 resized w e = record { bytes = w .bytes; size = w .size ∙ e; place = omega (arith, w .place, e) }
-
-pub and-left : (a b : Bool) → a && b ≡ true → a ≡ true
-and-left true b e = refl
-and-left false b e = e
 
 pub inside : (f : FieldDescription) (run : List ℕ) → named f run ≡ true → f .name .start + f .name .len ≤ length run
 unfolding named
