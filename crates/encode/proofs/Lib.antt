@@ -1,7 +1,5 @@
+pub mod Door
 pub mod GivenMeasures
 pub mod Measures
-pub mod Shapes
-pub mod Door
-pub mod Fieldless
-pub mod Measures
 pub mod Rows
+pub mod Shapes

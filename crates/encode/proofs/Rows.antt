@@ -1,35 +1,30 @@
 -- From the two passes over a row's fields to the promise of `row_description`.
-use Prim.Native.Nat.{ℕ, _+_, _-_, _≤_, _<_, min}
-use mathlib.Core.Bool.{Bool, true, false, cond, _&&_}
-use mathlib.Core.List.{List, [], _∷_}
+use Prim.Native.Nat.{ℕ, _+_, _-_, _≤_, _<_}
+use mathlib.Core.Bool.{Bool, true, false, cond, _&&_, and-false}
+use mathlib.Core.List.{List, []}
 use mathlib.Core.Option.{Option, some, none, Option·map}
-use mathlib.Core.Path.{_≡_, refl, ap, _∙_, sym, subst}
+use mathlib.Core.Path.{_≡_, refl, ap, _∙_, sym}
 use native.Mathlib.Omega.{arith}
 use lib.Dec.{leb}
 use lib.ListN.{length, length-append}
 use Rattle.protocol.specs.declared.Encoded.the-variants as N
 use Rattle.protocol.specs.declared.Encoded.{Encoded}
-use Rattle.protocol.specs.declared.Rules.{Rules}
 use Rattle.protocol.specs.declared.data.FieldDescription.{FieldDescription}
 use Rattle.protocol.specs.Bytes.{be}
 use Rattle.protocol.specs.Each.{ableEach, bytesOfEach}
-use Rattle.protocol.specs.Encode.{Encodes, rowFieldsGiven}
+use Rattle.protocol.specs.Encode.{Encodes}
 use Rattle.protocol.specs.Fields.{able, bytes, itemsAble, itemsBytes}
 use Rattle.protocol.specs.Kinds as K
 use Rattle.protocol.specs.WellFormed.{Contents, bodyBytes, header}
 use Rattle.pen.specs.Writing.{write, Wrote, Framed}
 use Rattle.pen.proofs.Encoding.{Measured, Judged, ableOf, framed, judged, roomOf, refused, finished}
+use Rattle.pen.proofs.GivenLaws.{and-left}
 use Rattle.pen.proofs.Laws.{_then_, nothing}
 use Rattle.pen.proofs.Lists.{and-true, and-right}
 use Rattle.rows.specs.declared.Pen.{Pen}
 use Rattle.rows.specs.Passes.{allPen, allOut, answered, begun, blank, writer}
-use Rattle.rows.proofs.Fields.{and-left}
 use Rattle.rows.proofs.Whole.{rows, allNamed, allInside, total, given-is, length-rows, able-rows, length-rows-bytes, pen-ok, pen-at, length-write, nothing-written, all-written}
 use Rattle.encode.specs.Given as G
-
-and-false : (a : Bool) → a && false ≡ false
-and-false true = refl
-and-false false = refl
 
 module _ (fs : List FieldDescription) (run : List ℕ) where
   -- the content of the arguments, by whether every name stands in the run

@@ -1,16 +1,16 @@
 // The general responses, as in response.rs.
-ghost use Prim.Native.Nat.{_+_, _≤_, _*_};
+ghost use Prim.Native.Nat.{_+_, _*_, _≤_};
+ghost use mathlib.Core.Bool.{true};
 ghost use mathlib.Core.Option.{some};
 ghost use mathlib.Core.Path.{_≡_};
 ghost use lib.IntN.{ℤ};
 ghost use lib.ListN.{length};
 ghost use Rattle.protocol.specs.Bytes.{bitsOf};
-ghost use Rattle.protocol.specs.Encode.{Encodes, gssKind, sslKind, errorFieldsGiven};
+ghost use Rattle.protocol.specs.Encode.{Encodes, errorFieldsGiven, gssKind, sslKind};
 ghost use Rattle.protocol.specs.Kinds as K;
+ghost use Rattle.pen.specs.Given.{isSome};
 ghost use Rattle.pen.specs.Writing.{Framed};
 ghost use Rattle.encode.specs.Given as G;
-ghost use Rattle.pen.specs.Given.{isSome};
-ghost use mathlib.Core.Bool.{true};
 use crate::bare;
 use crate::one_text;
 use pen::bits32;
@@ -47,6 +47,26 @@ pub fn empty_query_response(out: &mut [u8]) -> Encoded
     ensures { λ r. ⌜ Encodes K.backend K.emptyQueryResponse G.emptyQueryResponse (now (out .entry)) r (now (out .exit)) ⌝ }
 {
     bare(MESSAGE_TYPE_BYTE_EMPTY_QUERY_RESPONSE, out)
+}
+
+fn write_ready_for_query(status: u8, out: &mut [u8])
+    requires { ⌜ 6 ≤ length (now out) ⌝ }
+    ensures { λ r. ⌜ Framed K.typed K.readyForQuery (G.readyForQuery status) (now (out .entry)) (now (out .exit)) ⌝ }
+{
+    let at = put_head(out, MESSAGE_TYPE_BYTE_READY_FOR_QUERY, 6);
+    put_byte(out, at, status);
+}
+
+pub fn ready_for_query(status: u8, out: &mut [u8]) -> Encoded
+    ensures { λ r. ⌜ Encodes K.backend K.readyForQuery (G.readyForQuery status) (now (out .entry)) r (now (out .exit)) ⌝ }
+{
+    let able = is_status(status);
+    let r = verdict(able, SMALL, 5, out.len());
+    let Encoded::Done(n) = r else {
+        return r;
+    };
+    write_ready_for_query(status, out);
+    r
 }
 
 fn write_report(
@@ -100,26 +120,6 @@ pub fn notice_response(codes: &[u8], lengths: &[u32], joined: &[u8], out: &mut [
         joined,
         out,
     )
-}
-
-fn write_ready_for_query(status: u8, out: &mut [u8])
-    requires { ⌜ 6 ≤ length (now out) ⌝ }
-    ensures { λ r. ⌜ Framed K.typed K.readyForQuery (G.readyForQuery status) (now (out .entry)) (now (out .exit)) ⌝ }
-{
-    let at = put_head(out, MESSAGE_TYPE_BYTE_READY_FOR_QUERY, 6);
-    put_byte(out, at, status);
-}
-
-pub fn ready_for_query(status: u8, out: &mut [u8]) -> Encoded
-    ensures { λ r. ⌜ Encodes K.backend K.readyForQuery (G.readyForQuery status) (now (out .entry)) r (now (out .exit)) ⌝ }
-{
-    let able = is_status(status);
-    let r = verdict(able, SMALL, 5, out.len());
-    let Encoded::Done(n) = r else {
-        return r;
-    };
-    write_ready_for_query(status, out);
-    r
 }
 
 // pid is the bits of the process number.

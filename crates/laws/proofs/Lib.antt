@@ -21,3 +21,4 @@ pub mod MoreBytes
 pub mod NeedMore
 pub mod InOrder
 pub mod RowEntries
+pub mod Encoders

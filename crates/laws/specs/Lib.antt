@@ -9,3 +9,4 @@ pub mod ElementStatements
 pub mod Arguments
 pub mod EncodeStatements
 pub mod ReaderStatements
+pub mod Encoders

@@ -4,7 +4,6 @@ use mathlib.Core.List.{List, _++_}
 use mathlib.Core.Path.{_≡_, refl, ap, sym, _∙_}
 use native.Mathlib.Omega.{arith}
 use lib.ListN.{length, length-append}
-use Rattle.listing.specs.declared.Filled.{Filled}
 use Rattle.listing.specs.declared.Left.{Left}
 use Rattle.listing.specs.declared.Line.{Line}
 use Rattle.listing.specs.Listing.{Lines, lineOf, linesOf, Lined, Fills}

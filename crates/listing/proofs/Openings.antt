@@ -1,14 +1,13 @@
 -- What the start of an input says.
 use Prim.Native.Nat.{ℕ, _-_, _≤_}
 use mathlib.Core.List.{List, [], _∷_}
-use mathlib.Core.Option.{some, none}
-use mathlib.Core.Path.{_≡_, refl, ap, sym, _∙_}
+use mathlib.Core.Option.{some}
+use mathlib.Core.Path.{_≡_, refl, ap}
 use native.Mathlib.Omega.{arith}
 use lib.ListN.{length, getD}
 use Rattle.protocol.specs.Kinds.{Mode, modes, find}
 use Rattle.protocol.proofs.Find.{Apart, keysOnto, find-apart}
 use Rattle.listing.specs.declared.Opening.the-variants as O
-use Rattle.listing.specs.declared.Opening.{Opening}
 use Rattle.listing.specs.Listing.{digitOf, sized, openingBy, openingOf}
 
 pub empty : (s : List ℕ) → length s ≡ 0 → O.NoMode ≡ openingOf s

@@ -1,7 +1,8 @@
 -- The lines, one after the other, are the listing: what `fill` leaves is always the rest of it, and after so many lines nothing is left.
 use Prim.Native.Nat.{ℕ, zero, suc, _+_, _-_, _≤_, _<_}
-use mathlib.Core.List.{List, [], _∷_, _++_, append-assoc, append-nil}
+use mathlib.Core.List.{List, _++_, append-assoc, append-nil}
 use mathlib.Core.Path.{_≡_, refl, ap, sym, _∙_}
+use native.Mathlib.Nat.{zero-add}
 use native.Mathlib.Omega.{arith}
 use lib.ListN.{length, drop, length-drop}
 use Rattle.protocol.specs.declared.Message.{Message}
@@ -12,6 +13,7 @@ use Rattle.listing.specs.declared.Left.{Left}
 use Rattle.listing.specs.declared.Opening.the-variants as O
 use Rattle.listing.specs.declared.Opening.{Opening}
 use Rattle.listing.specs.Listing.{openingOf, streamText, textFrom, listingOf, leftText, Lines, stepLine, lineFrom, lineOf, linesOf}
+use Rattle.listing.proofs.Filling.{before}
 use Rattle.listing.proofs.Steps.{step-over, frame-size}
 
 -- ---- turns that are enough come to the same
@@ -71,6 +73,18 @@ lines-left zero input left = refl
 lines-left (suc k) input left =
     let l = lineOf input left in
     line-left input left ∙ ap (λ (t : List ℕ). l .text ++ t) (lines-left k input (l .left)) ∙ sym (append-assoc (l .text) _ _)
+
+before-assoc : (l t u : Lines) → before l (before t u) ≡ before (before l t) u
+before-assoc l t u = ap (λ (x : List ℕ). record { text = x; left = u .left }) (sym (append-assoc (l .text) (t .text) (u .text)))
+
+-- page after page are as many lines in one
+pub pages : (a b : ℕ) (input : List ℕ) (left : Left) → linesOf (a + b) input left ≡ before (linesOf a input left) (linesOf b input (linesOf a input left .left))
+unfolding linesOf
+pages zero b input left = rw zero-add refl
+pages (suc a) b input left =
+    let e : suc a + b ≡ suc (a + b) = omega arith in
+    let l = lineOf input left in
+    rw e (ap (before l) (pages a b input (l .left)) ∙ before-assoc l (linesOf a input (l .left)) _)
 
 nothing-stays : (k : ℕ) (input : List ℕ) → linesOf k input L.Nothing .left ≡ L.Nothing
 unfolding linesOf lineOf

@@ -2,7 +2,7 @@
 use Prim.Native.Nat.{ℕ, _+_, _-_, _<_, _≤_}
 use mathlib.Core.Bool.{Bool, true, false, cond}
 use mathlib.Core.List.{List}
-use mathlib.Core.Path.{_≡_, refl, ap, sym, _∙_}
+use mathlib.Core.Path.{_≡_, refl, ap, _∙_}
 use native.Mathlib.Omega.{arith}
 use borrow.Author.Tests.{le-leb, lt-leb, leb-false}
 use lib.Dec.{leb}
@@ -16,7 +16,7 @@ use Rattle.protocol.specs.declared.Message.{Message}
 use Rattle.protocol.specs.declared.Rules.{Rules}
 use Rattle.protocol.specs.Decode.{Header, more, refuse, framed, headerOf, decodedBy, decodeBy, decodeOf}
 use Rattle.protocol.specs.Kinds.{Envelope, typed, untyped, bare}
-use Rattle.protocol.specs.Stream.{Step, frame, stop, whole, stepBy, stepAt}
+use Rattle.protocol.specs.Stream.{frame, stop, whole, stepBy, stepAt}
 use Rattle.protocol.specs.WellFormed.{bodyStart}
 use Rattle.protocol.proofs.Framed.{framed-is, framed-ends}
 

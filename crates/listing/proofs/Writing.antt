@@ -5,7 +5,7 @@ use mathlib.Core.Path.{_≡_, refl, _∙_}
 use native.Mathlib.Nat.{add-zero}
 use native.Mathlib.Numerals.{add-one}
 use native.Mathlib.Omega.{arith}
-use lib.ListN.{length, set, getD, drop, length-set, length-append, drop-of-length-le}
+use lib.ListN.{length, set, getD, drop, length-append, drop-of-length-le}
 use lib.Seq.{drop-cons}
 use Rattle.listing.specs.Text.{write, Wrote}
 
@@ -14,10 +14,6 @@ write-append d p [] ys = rw add-zero refl
 write-append d p (x ∷ xs) ys =
     let e : p + suc (length xs) ≡ (p + 1) + length xs = omega arith in
     rw e (write-append (set d p x) (p + 1) xs ys)
-
-pub length-write : (d : List ℕ) (p : ℕ) (xs : List ℕ) → length (write d p xs) ≡ length d
-length-write d p [] = refl
-length-write d p (x ∷ xs) = length-write (set d p x) (p + 1) xs ∙ length-set d p x
 
 -- as ++, to the left
 infixl 30 _then_

@@ -149,8 +149,8 @@ pub fn put_oids(out: &mut [u8], at: usize, xs: &[u32]) -> usize
     requires { ⌜ (at + 4 * length (now xs) + 2 ≤ length (now out)) × (length (now xs) ≤ 32767) ⌝ }
     ensures { λ r. ⌜ Wrote (now (out .entry)) at (bytes oids (items (now (xs .entry)))) (2 + 4 * length (now (xs .entry))) (now (out .exit)) r ⌝ }
 {
-    let at = put_half(out, at, xs.len() as u16);
-    put_words(out, at, xs)
+    let first = put_half(out, at, xs.len() as u16);
+    put_words(out, first, xs)
 }
 
 pub fn put_formats(out: &mut [u8], at: usize, xs: &[i16]) -> usize

@@ -101,7 +101,7 @@ pub fn value<'a>(r: FrameReader<'a>) -> Value
 
 // The value at a place of a frame, by a reader made for it: what calls this needs no walk by hand.
 pub fn value_from(frame: &[u8], at: usize) -> Value
-    ensures { λ r. ⌜ valueRead at r ≡ readValue (now (frame .entry)) at ⌝ }
+    ensures { λ s. ⌜ valueRead at s ≡ readValue (now (frame .entry)) at ⌝ }
 {
     value(to(new(frame), at))
 }

@@ -8,9 +8,9 @@ use lib.Dec.{leb, ltb}
 use Rattle.protocol.specs.declared.Encoded.the-variants as N
 use Rattle.pen.specs.Writing.{verdictOf}
 use Rattle.pen.proofs.Encoding.{room-by}
+use Rattle.pen.proofs.GivenLaws.{and-left}
 use Rattle.rows.specs.declared.Pen.{Pen}
 use Rattle.rows.specs.Passes.{answered}
-use Rattle.rows.proofs.Fields.{and-left}
 
 -- n bytes, for what c measured of count fields
 pub record Roomy (c : Pen) (count room n : ℕ) : Type 0 where

@@ -1,21 +1,24 @@
 -- One field: its name's length, and its turn in a pass.
-use Prim.Native.Nat.{ℕ, _+_, _≤_, _<_, min}
-use mathlib.Core.Bool.{Bool, true, false, cond, _&&_}
-use mathlib.Core.List.{List}
-use mathlib.Core.Path.{_≡_, refl, ap, _∙_, sym}
+use Prim.Native.Nat.{ℕ, _+_, _≤_, _<_}
+use mathlib.Core.Bool.{Bool, true, false, _&&_}
+use mathlib.Core.List.{List, [], _∷_, _++_}
+use mathlib.Core.Path.{_≡_, refl, _∙_, sym}
 use native.Mathlib.Omega.{arith}
 use borrow.Author.Tests.{leb-true}
 use lib.Dec.{leb}
 use lib.ListN.{length, take, drop, length-take, length-drop}
 use Rattle.protocol.specs.declared.data.FieldDescription.{FieldDescription}
-use Rattle.protocol.specs.Bytes.{noZero}
+use Rattle.protocol.specs.Bytes.{bitsOf, noZero}
+use Rattle.protocol.specs.Each.{bytesOfEach}
 use Rattle.protocol.specs.Encode.{rowFieldGiven}
-use Rattle.protocol.specs.Fields.{itemBytes}
+use Rattle.protocol.specs.Fields.{atomBytes, itemBytes}
 use Rattle.protocol.specs.Kinds.{rowField}
 use Rattle.pen.specs.Writing.{write, Wrote}
+use Rattle.pen.proofs.GivenLaws.{and-left}
+use Rattle.pen.proofs.Laws.{_then_}
 use Rattle.pen.proofs.Lists.{and-right}
 use Rattle.rows.specs.declared.Pen.{Pen}
-use Rattle.rows.specs.Passes.{named, after, stepPen, stepOut}
+use Rattle.rows.specs.Passes.{named, numbers, after, stepPen, stepOut}
 
 pub part-length : (xs : List ℕ) (s n : ℕ) → s + n ≤ length xs → length (take n (drop s xs)) ≡ n
 part-length xs s n h = omega (arith, length-take n (drop s xs), length-drop s xs)
@@ -23,9 +26,16 @@ part-length xs s n h = omega (arith, length-take n (drop s xs), length-drop s xs
 pub resized : {d xs left : List ℕ} {p n m next : ℕ} → Wrote d p xs n left next → n ≡ m → Wrote d p xs m left next
 resized w e = record { bytes = w .bytes; size = w .size ∙ e; place = omega (arith, w .place, e) }
 
-pub and-left : (a b : Bool) → a && b ≡ true → a ≡ true
-and-left true b e = refl
-and-left false b e = e
+-- a field is written: its name and the numbers, the signed ones as their bits
+pub fielded : {d mid left : List ℕ} {p at next table column size modifier format : ℕ} (f : FieldDescription) (run : List ℕ)
+    → table ≡ bitsOf 4 (f .«table_id») → column ≡ bitsOf 2 (f .«column_id») → size ≡ bitsOf 2 (f .«type_size»)
+    → modifier ≡ bitsOf 4 (f .«type_modifier») → format ≡ bitsOf 2 (f .«format_code»)
+    → Wrote d p (take (f .name .len) (drop (f .name .start) run) ++ 0 ∷ []) (f .name .len + 1) mid at
+    → Wrote mid at (numbers table column (f .«type_id») size modifier format) 18 left next
+    → Wrote d p (itemBytes rowField (rowFieldGiven f run)) (f .name .len + 19) left next
+unfolding itemBytes bytesOfEach atomBytes
+fielded f run table column size modifier format name rest =
+    resized (name then rw (table, column, size, modifier, format) at rest) (omega arith)
 
 pub inside : (f : FieldDescription) (run : List ℕ) → named f run ≡ true → f .name .start + f .name .len ≤ length run
 unfolding named

@@ -1,8 +1,8 @@
 -- The two passes together: what is measured is what the arguments' content needs, and what is written is its bytes.
 use Prim.Native.Nat.{ℕ, _+_, _≤_, _<_, min}
 use mathlib.Core.Bool.{Bool, true, false, cond, _&&_, and-assoc}
-use mathlib.Core.List.{List, [], _∷_, _++_, map}
-use mathlib.Core.Option.{Option, some, none, Option·map}
+use mathlib.Core.List.{List, [], _∷_, map}
+use mathlib.Core.Option.{some, none}
 use mathlib.Core.Path.{_≡_, refl, ap, _∙_, sym}
 use native.Mathlib.Omega.{arith}
 use borrow.Author.Tests.{leb-true, le-leb}
@@ -16,11 +16,12 @@ use Rattle.protocol.specs.Encode.{oneBefore, rowFieldGiven, rowFieldsGiven}
 use Rattle.protocol.specs.Fields.{ItemContent, atomBytes, atomAble, itemBytes, itemAble, itemsBytes, itemsAble}
 use Rattle.protocol.specs.Kinds.{rowField}
 use Rattle.pen.specs.Writing.{write}
+use Rattle.pen.proofs.GivenLaws.{and-left}
 use Rattle.pen.proofs.Laws.{write-append}
 use Rattle.pen.proofs.Lists.{and-true, and-right}
 use Rattle.rows.specs.declared.Pen.{Pen}
 use Rattle.rows.specs.Passes.{named, after, stepPen, stepOut, allPen, allOut}
-use Rattle.rows.proofs.Fields.{part-length, and-left, inside}
+use Rattle.rows.proofs.Fields.{part-length, inside}
 
 -- ---- the content
 

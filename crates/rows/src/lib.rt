@@ -29,7 +29,7 @@ pub struct Pen {
     pub writing: bool,
 }
 
-pub fn name_able(f: FieldDescription, run: &[u8]) -> bool
+fn name_able(f: FieldDescription, run: &[u8]) -> bool
     ensures { λ r. ⌜ r ≡ P.named f (now (run .entry)) ⌝ }
 {
     let start = f.name.start;
@@ -44,7 +44,7 @@ pub fn name_able(f: FieldDescription, run: &[u8]) -> bool
 }
 
 // A name, which stands in the run, with its zero byte.
-pub fn put_name(out: &mut [u8], at: usize, run: &[u8], start: usize, len: usize) -> usize
+fn put_name(out: &mut [u8], at: usize, run: &[u8], start: usize, len: usize) -> usize
     requires { ⌜ (start + len ≤ length (now run)) × (at + len + 1 ≤ length (now out)) ⌝ }
     ensures { λ r. ⌜ Wrote (now (out .entry)) at (take len (drop start (now (run .entry))) ++ 0 ∷ []) (len + 1) (now (out .exit)) r ⌝ }
 {
@@ -52,7 +52,7 @@ pub fn put_name(out: &mut [u8], at: usize, run: &[u8], start: usize, len: usize)
 }
 
 // The six numbers of a field, the signed ones as their bits.
-pub fn put_numbers(
+fn put_numbers(
     out: &mut [u8],
     at: usize,
     table: u32,
@@ -74,7 +74,7 @@ pub fn put_numbers(
 }
 
 // One field: its name, a zero byte and the numbers.
-pub fn put_field(f: FieldDescription, run: &[u8], out: &mut [u8], at: usize) -> usize
+fn put_field(f: FieldDescription, run: &[u8], out: &mut [u8], at: usize) -> usize
     requires { ⌜ (f .name .start + f .name .len ≤ length (now run)) × (at + (f .name .len + 19) ≤ length (now out)) ⌝ }
     ensures { λ r. ⌜ Wrote (now (out .entry)) at (itemBytes rowField (rowFieldGiven f (now (run .entry)))) (f .name .len + 19) (now (out .exit)) r ⌝ }
 {
@@ -88,7 +88,7 @@ pub fn put_field(f: FieldDescription, run: &[u8], out: &mut [u8], at: usize) -> 
 }
 
 // One field's turn in a pass: it is measured, and written where the pass writes.
-pub fn step(c: Pen, f: FieldDescription, run: &[u8], out: &mut [u8]) -> Pen
+fn step(c: Pen, f: FieldDescription, run: &[u8], out: &mut [u8]) -> Pen
     ensures { λ r. ⌜ (r ≡ P.stepPen c f (now (run .entry))) × (now (out .exit) ≡ P.stepOut c f (now (run .entry)) (now (out .entry))) ⌝ }
 {
     let able = name_able(f, run);

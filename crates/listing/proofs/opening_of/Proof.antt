@@ -1,5 +1,5 @@
 -- `listing::opening_of` meets its contract: each digit is a mode's, and any other byte none's.
-use mathlib.Core.Path.{_≡_, refl, sym, _∙_}
+use mathlib.Core.Path.{refl, _∙_}
 use native.Mathlib.Omega.{arith}
 use borrow.Author.Needs.{needs}
 use Rattle.protocol.specs.Kinds.{find, frontend, backend, cancel, tlsAnswer, gssAnswer}

@@ -1,14 +1,12 @@
 -- `listing::put_from` meets its contract: the opening decides.
-use Prim.Native.Nat.{ℕ, _-_, _≤_}
-use mathlib.Core.List.{List}
-use mathlib.Core.Path.{_≡_, refl, ap, sym, _∙_}
+use Prim.Native.Nat.{_-_}
+use mathlib.Core.Path.{_≡_, refl, sym, _∙_}
 use native.Mathlib.Omega.{arith}
 use borrow.Author.Needs.{needs}
-use lib.ListN.{length, take, drop, length-drop}
+use lib.ListN.{length, drop, length-drop}
 use lib.Seq.{take-all}
-use Rattle.protocol.specs.Stream.{stepAt}
 use Rattle.listing.specs.declared.Opening.the-variants as O
-use Rattle.listing.specs.Listing.{Lined, openingOf, stepLine, lineFrom}
+use Rattle.listing.specs.Listing.{openingOf, lineFrom}
 use Rattle.listing.proofs.Openings.{opens}
 use Rattle.listing.proofs.put_from.Statement.{statement}
 use Rattle.listing.proofs.put_from.Tie as tie

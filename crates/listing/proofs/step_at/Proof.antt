@@ -1,9 +1,7 @@
 -- `listing::step_at` meets its contract: the place is tested first, and then the rest is decoded.
-use Prim.Native.Nat.{_<_}
-use mathlib.Core.Path.{_≡_, refl, ap, sym, _∙_}
+use mathlib.Core.Path.{ap, sym, _∙_}
 use native.Mathlib.Omega.{arith}
 use borrow.Author.Needs.{needs}
-use lib.ListN.{length}
 use Rattle.protocol.specs.Stream.{stepBy}
 use Rattle.listing.proofs.Steps.{step-over, step-within}
 use Rattle.listing.proofs.step_at.Statement.{statement}

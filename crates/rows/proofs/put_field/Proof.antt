@@ -1,12 +1,10 @@
 -- `rows::put_field` meets its contract.
 use native.Mathlib.Omega.{arith}
 use borrow.Author.Needs.{needs}
+use denote.Ref.{now}
 use mir.Syntax.{w16, w32}
-use Rattle.protocol.specs.Each.{bytesOfEach}
-use Rattle.protocol.specs.Fields.{itemBytes, atomBytes}
-use Rattle.pen.proofs.Laws.{_then_}
 use Rattle.pen.proofs.Signs.{bits-of}
-use Rattle.rows.proofs.Fields.{resized}
+use Rattle.rows.proofs.Fields.{fielded}
 use Rattle.rows.proofs.put_field.Statement.{statement}
 use Rattle.rows.proofs.put_field.Tie as tie
 
@@ -17,7 +15,6 @@ put-numbers-requires c κs =
     omega (arith, n .put-name .ensures .place, s .pre)
 
 returns : tie.Need-returns
-unfolding itemBytes bytesOfEach atomBytes
 returns c =
     let m = c .before .before in
     let n = m .before .before .before .before in
@@ -34,7 +31,7 @@ returns c =
     let size = bits-of w16 2 (f .«type_size») (record { sfits = ranged .1 .1 .1 .0 .1 }) (b3 .bits162 .ensures) in
     let modifier = bits-of w32 4 (f .«type_modifier») (record { sfits = ranged .1 .1 .1 .1 .0 .1 }) (b4 .bits322 .ensures) in
     let format = bits-of w16 2 (f .«format_code») (record { sfits = ranged .1 .1 .1 .1 .1 .0 .1 }) (b5 .bits163 .ensures) in
-    resized (n .put-name .ensures then rw (table, column, size, modifier, format) at (m .put-numbers .ensures)) (omega arith)
+    fielded f (now (s .args .run)) table column size modifier format (n .put-name .ensures) (m .put-numbers .ensures)
 
 pub put-field-spec : {M : Type 1} → statement M
 put-field-spec =

@@ -1,10 +1,8 @@
 -- `rows::step` meets its contract.
-use Prim.Native.Nat.{ℕ, _+_, min}
 use mathlib.Core.Path.{_≡_}
 use native.Mathlib.Omega.{arith}
 use borrow.Author.Needs.{needs}
 use denote.Ref.{now}
-use lib.ListN.{length}
 use Rattle.rows.specs.Passes.{after}
 use Rattle.rows.proofs.Fields.{penned, roomy, put, kept}
 use Rattle.rows.proofs.step.Statement.{statement}

@@ -1,5 +1,5 @@
 -- `rows::writer` meets its contract.
-use mathlib.Core.Path.{_≡_, refl}
+use mathlib.Core.Path.{refl}
 use borrow.Author.Needs.{needs}
 use Rattle.rows.specs.Passes.{writer}
 use Rattle.rows.proofs.writer.Statement.{statement}

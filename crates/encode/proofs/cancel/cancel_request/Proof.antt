@@ -2,8 +2,6 @@
 use mathlib.Core.Path.{refl}
 use native.Mathlib.Omega.{arith}
 use borrow.Author.Needs.{needs}
-use denote.Ref.{now}
-use lib.ListN.{length}
 use mir.Syntax.{w32}
 use Rattle.protocol.specs.Bytes.{be}
 use Rattle.protocol.specs.Each.{ableEach, bytesOfEach}
