@@ -211,24 +211,6 @@ fn rooms() {
     calls::sync(&mut [SPARE; 0]);
 }
 
-fn more_rooms() {
-    calls::bind(&mut [SPARE; 21], b"", b"", &[1], &[2], b"ab", &[]);
-    calls::bind(&mut [SPARE; 20], b"", b"", &[1], &[2], b"ab", &[]);
-    calls::close(&mut [SPARE; 8], b'S', b"a");
-    calls::close(&mut [SPARE; 7], b'S', b"a");
-    calls::execute(&mut [SPARE; 11], b"a", 5);
-    calls::execute(&mut [SPARE; 10], b"a", 5);
-}
-
-fn copy_rooms() {
-    calls::copy_data(&mut [SPARE; 7], b"ab");
-    calls::copy_data(&mut [SPARE; 6], b"ab");
-    calls::copy_fail(&mut [SPARE; 7], b"a");
-    calls::copy_fail(&mut [SPARE; 6], b"a");
-    calls::copy_in_response(&mut [SPARE; 10], 0, &[1]);
-    calls::copy_in_response(&mut [SPARE; 9], 0, &[1]);
-}
-
 fn row_rooms() {
     calls::row_description_of_one(&mut [SPARE; 28], field(0, 2), b"id");
     calls::row_description_of_one(&mut [SPARE; 27], field(0, 2), b"id");
@@ -236,15 +218,6 @@ fn row_rooms() {
     calls::data_row(&mut [SPARE; 12], &[2], b"ab");
     calls::parameter_description(&mut [SPARE; 11], &[23]);
     calls::parameter_description(&mut [SPARE; 10], &[23]);
-}
-
-fn response_rooms() {
-    calls::ready_for_query(&mut [SPARE; 6], b'I');
-    calls::ready_for_query(&mut [SPARE; 5], b'I');
-    calls::error_response(&mut [SPARE; 10], b"S", &[2], b"ab");
-    calls::error_response(&mut [SPARE; 9], b"S", &[2], b"ab");
-    calls::notification_response(&mut [SPARE; 13], 1, b"a", b"b");
-    calls::notification_response(&mut [SPARE; 12], 1, b"a", b"b");
 }
 
 fn answer_rooms() {
@@ -287,10 +260,7 @@ pub fn run() {
     outside();
     outside_by_far();
     rooms();
-    more_rooms();
-    copy_rooms();
     row_rooms();
-    response_rooms();
     answer_rooms();
     faults();
 }
