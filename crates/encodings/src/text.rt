@@ -1,0 +1,69 @@
+// What an encoder answers, in text, with every byte of the output: of a long one the number and two sums.
+use libc::STDOUT_FILENO;
+use protocol::Encoded;
+
+// The longest output that is written byte by byte.
+const SHORT: usize = 64;
+
+pub fn write(bytes: &[u8]) {
+    io::write_all(STDOUT_FILENO, bytes);
+}
+
+fn write_number(n: usize) {
+    io::print_decimal(STDOUT_FILENO, n as u64);
+}
+
+fn wide(byte: u8) -> u64 {
+    byte as u64
+}
+
+fn write_hex(bytes: &[u8]) {
+    for i in 0..bytes.len() {
+        write(b" ");
+        io::print_hex(STDOUT_FILENO, wide(bytes[i]), 2);
+    }
+}
+
+// The sum of the bytes, and the sum of the sums up to each of them, which tells their places too. Both wrap.
+fn write_sums(bytes: &[u8]) {
+    let mut sum: u64 = 0;
+    let mut sums: u64 = 0;
+    for i in 0..bytes.len() {
+        sum = std::num::wrapping_add_u64(sum, wide(bytes[i]));
+        sums = std::num::wrapping_add_u64(sums, sum);
+    }
+    write(b" sum ");
+    io::print_decimal(STDOUT_FILENO, sum);
+    write(b" sums ");
+    io::print_decimal(STDOUT_FILENO, sums);
+}
+
+fn write_answer(encoded: Encoded) {
+    match encoded {
+        Encoded::Done(size) => {
+            write(b" done ");
+            write_number(size);
+        }
+        Encoded::Refused(number, place) => {
+            write(b" refused ");
+            write_number(number as usize);
+            write(b" at ");
+            write_number(place);
+        }
+    }
+}
+
+// A line: the kind, the answer, the room, and the output as it is after the call.
+pub fn write_line(kind: &[u8], encoded: Encoded, out: &[u8]) {
+    write(kind);
+    write_answer(encoded);
+    write(b" of ");
+    write_number(out.len());
+    write(b":");
+    if SHORT < out.len() {
+        write_sums(out);
+    } else {
+        write_hex(out);
+    }
+    write(b"\n");
+}
