@@ -22,3 +22,4 @@ pub mod NeedMore
 pub mod InOrder
 pub mod RowEntries
 pub mod Encoders
+pub mod Tight

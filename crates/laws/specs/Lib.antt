@@ -10,3 +10,4 @@ pub mod Arguments
 pub mod EncodeStatements
 pub mod ReaderStatements
 pub mod Encoders
+pub mod Tight
