@@ -11,6 +11,7 @@ use Rattle.protocol.specs.Kinds.{Mode, modes, find}
 use Rattle.protocol.specs.Names.{nameOf, lettersOf}
 use Rattle.protocol.specs.Stream as Stream
 use Rattle.protocol.specs.Stream.{End, whole, needMore, refused, frame, stop, Framed, Stream, stepAt, streamFrom}
+use Rattle.pen.specs.Writing.{write}
 use Rattle.listing.specs.declared.Left.the-variants as L
 use Rattle.listing.specs.declared.Left.{Left}
 use Rattle.listing.specs.declared.Filled.{Filled}
@@ -19,7 +20,7 @@ use Rattle.listing.specs.declared.Opening.the-variants as O
 use Rattle.listing.specs.declared.Opening.{Opening}
 use Rattle.listing.specs.declared.Step.the-variants as S
 use Rattle.listing.specs.declared.Step.{Step}
-use Rattle.listing.specs.Text.{decimal, write, Wrote}
+use Rattle.listing.specs.Text.{decimal, Wrote}
 
 -- what each case of a step says
 abbrev pub stepOf : Step → Stream.Step

@@ -5,10 +5,10 @@ ghost use lib.ListN.{length};
 ghost use Rattle.protocol.specs.Stream.{needMore, refused, whole};
 ghost use Rattle.listing.specs.Listing.{endLine, frameLine, newline};
 ghost use Rattle.listing.specs.Text.{Wrote, decimal};
-use crate::text::put_byte;
-use crate::text::put_bytes;
 use crate::text::put_name;
 use crate::text::put_number;
+use pen::put_byte;
+use pen::put_bytes;
 use protocol::Message;
 
 // The line of a frame: its place, its kind's name and its bytes.

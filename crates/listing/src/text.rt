@@ -1,33 +1,11 @@
 // Writers of text: each writes at a place of a lent slice and returns the place after it.
 ghost use Prim.Native.Nat.{_+_, _≤_, _<_};
-ghost use mathlib.Core.List.{[], _∷_};
 ghost use mathlib.Core.Path.{_≡_};
 ghost use lib.ListN.{drop, length, take};
 ghost use Rattle.protocol.specs.Names.{lettersOf, nameOf};
 ghost use Rattle.listing.specs.Text.{Wrote, decimal};
+use pen::put_bytes;
 use protocol::Message;
-
-pub fn put_byte(out: &mut [u8], at: usize, x: u8) -> usize
-    requires { ⌜ at + 1 ≤ length (now out) ⌝ }
-    ensures { λ r. ⌜ Wrote (now (out .entry)) at (x ∷ []) (now (out .exit)) r ⌝ }
-{
-    out[at] = x;
-    at + 1
-}
-
-pub fn put_bytes(out: &mut [u8], at: usize, s: &[u8]) -> usize
-    requires { ⌜ at + length (now s) ≤ length (now out) ⌝ }
-    ensures { λ r. ⌜ Wrote (now (out .entry)) at (now (s .entry)) (now (out .exit)) r ⌝ }
-{
-    let mut i = 0;
-    let mut p = at;
-    while i < s.len() {
-        out[p] = s[i];
-        p += 1;
-        i += 1;
-    }
-    p
-}
 
 // A number's digits, the last in the last place.
 struct Digits {
@@ -85,7 +63,7 @@ pub fn put_name(out: &mut [u8], at: usize, message: Message) -> usize
     ensures { λ r. ⌜ r ≤ at + 20 ⌝ }
 {
     let name = names::name_of(message);
-    let start = name.start;
+    let start = name.at;
     let len = name.len;
     put_part(
         out,

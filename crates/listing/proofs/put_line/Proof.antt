@@ -21,7 +21,7 @@ returns-2 c =
 returns-3 : tie.Need-returns-3
 unfolding lineOf
 returns-3 c =
-    rw (c .enum-told2 .given .1) (record { wrote = record { bytes = refl; place = omega arith }; left = refl; short = omega arith })
+    rw (c .enum-told2 .given .1) (record { wrote = record { bytes = refl; size = refl; place = omega arith }; left = refl; short = omega arith })
 
 pub put-line-spec : {M : Type 1} → statement M
 put-line-spec =

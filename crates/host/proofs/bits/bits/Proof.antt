@@ -1,33 +1,12 @@
--- `host::bits::bits` meets its contract, by the number's sign.
-use mathlib.Core.Path.{sym}
-use native.Mathlib.Omega.{arith}
-use Rattle.host.proofs.Signs.{Low, low, High, high}
+-- `host::bits::bits` meets its contract: the bits of `pen`, made wider.
+use borrow.Author.Needs.{needs}
+use mir.Syntax.{w32}
+use Rattle.pen.proofs.Signs.{bits-of}
 use Rattle.host.proofs.bits.bits.Statement.{statement}
 use Rattle.host.proofs.bits.bits.Tie as tie
 
-neg : (c : tie.Then1) → Low (c .before .args .x)
-neg c = low (c .before .args .x) (c .before .fits .x) (c .if1 .taken)
-
-non : (c : tie.Else1) → High (c .before .args .x)
-non c = high (c .before .args .x) (c .before .fits .x) (c .if1 .left)
-
-sub-result : tie.Need-sub-result
-sub-result c = rw (neg c .flipped) (record { sfits = neg c .small })
-
-cast-result : tie.Need-cast-result
-cast-result c = rw (neg c .again) (tt, record { fits = omega (arith, neg c .small) })
-
-sub-result-2 : tie.Need-sub-result-2
-sub-result-2 c = rw (neg c .again) (omega (arith, neg c .small))
-
-cast-result-2 : tie.Need-cast-result-2
-cast-result-2 c = rw (non c .again) (tt, record { fits = omega (arith, non c .small) })
-
 returns : tie.Need-returns
-returns c = rw (neg c .again) (sym (neg c .is))
-
-returns-2 : tie.Need-returns-2
-returns-2 c = rw (non c .again) (sym (non c .is))
+returns c = bits-of w32 4 (c .before .args .x) (c .before .fits .x) (c .bits32 .ensures)
 
 pub bits-spec : {M : Type 1} → statement M
-bits-spec = tie.close (tie.spec sub-result cast-result sub-result-2 cast-result-2 returns returns-2)
+bits-spec = tie.close (tie.spec (λ c κs. search needs) (λ c. search needs) returns)
