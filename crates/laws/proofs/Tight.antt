@@ -1,17 +1,23 @@
 -- Each contract leaves one answer, and one final buffer.
 use Prim.Native.Nat.{ℕ}
+use mathlib.Core.Bool.{cond}
 use mathlib.Core.List.{List}
-use mathlib.Core.Option.{Option, none}
+use mathlib.Core.Option.{Option, some, none}
 use mathlib.Core.Path.{_≡_, refl, ap, sym, _∙_}
-use native.Mathlib.Omega.{arith}
+use lib.Dec.{eqb}
 use lib.IntN.{ℤ}
 use Rattle.protocol.specs.declared.Encoded.{Encoded}
+use Rattle.protocol.specs.declared.List.{List as ListSlot}
 use Rattle.protocol.specs.declared.Span.{Span}
+use Rattle.protocol.specs.declared.data.FieldDescription.{FieldDescription}
 use Rattle.protocol.specs.Encode.{writtenBy, Encodes}
 use Rattle.protocol.specs.Each.{Each}
 use Rattle.protocol.specs.Fields.{AtomSlot}
 use Rattle.protocol.specs.Kinds.{Kind, Mode, errorField}
-use Rattle.protocol.specs.Reading.{got}
+use Rattle.protocol.specs.Reading.{Read, got, bad}
+use Rattle.protocol.specs.Refusals.{cut}
+use Rattle.protocol.specs.Stream as Stream
+use Rattle.protocol.specs.Stream.{whole, needMore, refused, frame, stop}
 use Rattle.protocol.specs.WellFormed.{Contents}
 use Rattle.codec.specs.Answers.{byteRead, halfRead, listedRead, passedRead, textRead, valueRead, wordRead}
 use Rattle.codec.specs.declared.Byte.the-variants as B
@@ -57,117 +63,96 @@ use Rattle.laws.specs.Tight.Rows.{RowsTight}
 
 -- ---- a step's answer is told by what it reads
 
-byte-one : (at : ℕ) (r s : Byte) → byteRead at r ≡ byteRead at s → r ≡ s
-byte-one at (B.Is n c) (B.Is m d) e =
-    let a : n ≡ m = cc in
-    let b : c .at ≡ d .at = cc in
-    λ j. B.Is (a j) (record { at = b j })
-byte-one at (B.Is n c) B.Cut e = let z : _≡_ {A = ℕ} 0 1 = cc in absurd (omega arith)
-byte-one at B.Cut (B.Is n c) e = let z : _≡_ {A = ℕ} 0 1 = cc in absurd (omega arith)
-byte-one at B.Cut B.Cut e = refl
+-- what can be made back is told by what was made of it
+back-one : {A B : Type 0} (of : A → B) (back : B → A) → ((a : A) → back (of a) ≡ a) → (r s : A) → of r ≡ of s → r ≡ s
+back-one of back again r s e = sym (again r) ∙ ap back e ∙ again s
 
-half-one : (at : ℕ) (r s : Half) → halfRead at r ≡ halfRead at s → r ≡ s
-half-one at (H.Is n c) (H.Is m d) e =
-    let a : n ≡ m = cc in
-    let b : c .at ≡ d .at = cc in
-    λ j. H.Is (a j) (record { at = b j })
-half-one at (H.Is n c) H.Cut e = let z : _≡_ {A = ℕ} 0 1 = cc in absurd (omega arith)
-half-one at H.Cut (H.Is n c) e = let z : _≡_ {A = ℕ} 0 1 = cc in absurd (omega arith)
-half-one at H.Cut H.Cut e = refl
+abbrev byte-back : Read ℕ → Byte
+byte-back (got n q) = B.Is n (record { at = q })
+byte-back (bad number place) = B.Cut
 
-word-one : (at : ℕ) (r s : Word) → wordRead at r ≡ wordRead at s → r ≡ s
-word-one at (W.Is n c) (W.Is m d) e =
-    let a : n ≡ m = cc in
-    let b : c .at ≡ d .at = cc in
-    λ j. W.Is (a j) (record { at = b j })
-word-one at (W.Is n c) W.Cut e = let z : _≡_ {A = ℕ} 0 1 = cc in absurd (omega arith)
-word-one at W.Cut (W.Is n c) e = let z : _≡_ {A = ℕ} 0 1 = cc in absurd (omega arith)
-word-one at W.Cut W.Cut e = refl
+byte-again : (at : ℕ) (r : Byte) → byte-back (byteRead at r) ≡ r
+byte-again at (B.Is n c) = refl
+byte-again at B.Cut = refl
 
-text-one : (at : ℕ) (r s : Text) → textRead at r ≡ textRead at s → r ≡ s
-text-one at (T.Is n c) (T.Is m d) e =
-    let a : n ≡ m = cc in
-    let b : c .at ≡ d .at = cc in
-    λ j. T.Is (a j) (record { at = b j })
-text-one at (T.Is n c) T.Cut e = let z : _≡_ {A = ℕ} 0 1 = cc in absurd (omega arith)
-text-one at T.Cut (T.Is n c) e = let z : _≡_ {A = ℕ} 0 1 = cc in absurd (omega arith)
-text-one at T.Cut T.Cut e = refl
+abbrev half-back : Read ℕ → Half
+half-back (got n q) = H.Is n (record { at = q })
+half-back (bad number place) = H.Cut
 
-value-one : (at : ℕ) (r s : Value) → valueRead at r ≡ valueRead at s → r ≡ s
-value-one at (Va.Is n c) (Va.Is m d) e =
-    let a : n ≡ m = cc in
-    let b : c .at ≡ d .at = cc in
-    λ j. Va.Is (a j) (record { at = b j })
-value-one at (Va.Is n c) (Va.Null d) e = let z : _≡_ {A = ℕ} 0 1 = cc in absurd (omega arith)
-value-one at (Va.Is n c) Va.Cut e = let z : _≡_ {A = ℕ} 0 1 = cc in absurd (omega arith)
-value-one at (Va.Is n c) Va.BelowNull e = let z : _≡_ {A = ℕ} 0 1 = cc in absurd (omega arith)
-value-one at (Va.Null c) (Va.Is m d) e = let z : _≡_ {A = ℕ} 0 1 = cc in absurd (omega arith)
-value-one at (Va.Null c) (Va.Null d) e =
-    let b : c .at ≡ d .at = cc in
-    λ j. Va.Null (record { at = b j })
-value-one at (Va.Null c) Va.Cut e = let z : _≡_ {A = ℕ} 0 1 = cc in absurd (omega arith)
-value-one at (Va.Null c) Va.BelowNull e = let z : _≡_ {A = ℕ} 0 1 = cc in absurd (omega arith)
-value-one at Va.Cut (Va.Is m d) e = let z : _≡_ {A = ℕ} 0 1 = cc in absurd (omega arith)
-value-one at Va.Cut (Va.Null d) e = let z : _≡_ {A = ℕ} 0 1 = cc in absurd (omega arith)
-value-one at Va.Cut Va.Cut e = refl
-value-one at Va.Cut Va.BelowNull e = let z : _≡_ {A = ℕ} 6 7 = cc in absurd (omega arith)
-value-one at Va.BelowNull (Va.Is m d) e = let z : _≡_ {A = ℕ} 0 1 = cc in absurd (omega arith)
-value-one at Va.BelowNull (Va.Null d) e = let z : _≡_ {A = ℕ} 0 1 = cc in absurd (omega arith)
-value-one at Va.BelowNull Va.Cut e = let z : _≡_ {A = ℕ} 7 6 = cc in absurd (omega arith)
-value-one at Va.BelowNull Va.BelowNull e = refl
+half-again : (at : ℕ) (r : Half) → half-back (halfRead at r) ≡ r
+half-again at (H.Is n c) = refl
+half-again at H.Cut = refl
 
-listed-one : (r s : Listed) → listedRead r ≡ listedRead s → r ≡ s
-listed-one (L.Is n c) (L.Is m d) e =
-    let a : n ≡ m = cc in
-    let b : c .at ≡ d .at = cc in
-    λ j. L.Is (a j) (record { at = b j })
-listed-one (L.Is n c) (L.Refused a b) e = let z : _≡_ {A = ℕ} 0 1 = cc in absurd (omega arith)
-listed-one (L.Refused a b) (L.Is n c) e = let z : _≡_ {A = ℕ} 0 1 = cc in absurd (omega arith)
-listed-one (L.Refused a b) (L.Refused c d) e = cc
+abbrev word-back : Read ℕ → Word
+word-back (got n q) = W.Is n (record { at = q })
+word-back (bad number place) = W.Cut
 
-passed-one : (r s : Passed) → passedRead r ≡ passedRead s → r ≡ s
-passed-one (Pa.To c) (Pa.To d) e =
-    let b : c .at ≡ d .at = cc in
-    λ j. Pa.To (record { at = b j })
-passed-one (Pa.To c) (Pa.Refused a b) e = let z : _≡_ {A = ℕ} 0 1 = cc in absurd (omega arith)
-passed-one (Pa.Refused a b) (Pa.To c) e = let z : _≡_ {A = ℕ} 0 1 = cc in absurd (omega arith)
-passed-one (Pa.Refused a b) (Pa.Refused c d) e = cc
+word-again : (at : ℕ) (r : Word) → word-back (wordRead at r) ≡ r
+word-again at (W.Is n c) = refl
+word-again at W.Cut = refl
 
-field-one : (r s : FieldStep) → fieldRead r ≡ fieldRead s → r ≡ s
-field-one (F.Is n c) (F.Is m d) e =
-    let a : n ≡ m = cc in
-    let b : c .at ≡ d .at = cc in
-    λ j. F.Is (a j) (record { at = b j })
-field-one (F.Is n c) (F.Cut p) e = let z : _≡_ {A = ℕ} 0 1 = cc in absurd (omega arith)
-field-one (F.Cut p) (F.Is n c) e = let z : _≡_ {A = ℕ} 0 1 = cc in absurd (omega arith)
-field-one (F.Cut p) (F.Cut q) e = cc
+abbrev text-back : Read Span → Text
+text-back (got s q) = T.Is s (record { at = q })
+text-back (bad number place) = T.Cut
 
-error-one : (r s : ErrorStep) → errorRead r ≡ errorRead s → r ≡ s
-error-one (E.Is n t c) (E.Is m u d) e =
-    let same : _≡_ {A = Each AtomSlot (errorField .atoms)} (n, (t, tt)) (m, (u, tt)) = cc in
-    let b : c .at ≡ d .at = cc in
-    λ j. E.Is (same j .0) (same j .1 .0) (record { at = b j })
-error-one (E.Is n t c) (E.Cut p) e = let z : _≡_ {A = ℕ} 0 1 = cc in absurd (omega arith)
-error-one (E.Cut p) (E.Is n t c) e = let z : _≡_ {A = ℕ} 0 1 = cc in absurd (omega arith)
-error-one (E.Cut p) (E.Cut q) e = cc
+text-again : (at : ℕ) (r : Text) → text-back (textRead at r) ≡ r
+text-again at (T.Is s c) = refl
+text-again at T.Cut = refl
 
-stepOf-one : (r s : Step) → stepOf r ≡ stepOf s → r ≡ s
-stepOf-one (S.Frame m n) (S.Frame k j) e = cc
-stepOf-one (S.Frame m n) S.Whole e = let z : _≡_ {A = ℕ} 0 1 = cc in absurd (omega arith)
-stepOf-one (S.Frame m n) S.NeedMore e = let z : _≡_ {A = ℕ} 0 1 = cc in absurd (omega arith)
-stepOf-one (S.Frame m n) (S.Refused k) e = let z : _≡_ {A = ℕ} 0 1 = cc in absurd (omega arith)
-stepOf-one S.Whole (S.Frame k j) e = let z : _≡_ {A = ℕ} 0 1 = cc in absurd (omega arith)
-stepOf-one S.Whole S.Whole e = refl
-stepOf-one S.Whole S.NeedMore e = let z : _≡_ {A = ℕ} 0 1 = cc in absurd (omega arith)
-stepOf-one S.Whole (S.Refused k) e = let z : _≡_ {A = ℕ} 0 1 = cc in absurd (omega arith)
-stepOf-one S.NeedMore (S.Frame k j) e = let z : _≡_ {A = ℕ} 0 1 = cc in absurd (omega arith)
-stepOf-one S.NeedMore S.Whole e = let z : _≡_ {A = ℕ} 0 1 = cc in absurd (omega arith)
-stepOf-one S.NeedMore S.NeedMore e = refl
-stepOf-one S.NeedMore (S.Refused k) e = let z : _≡_ {A = ℕ} 0 1 = cc in absurd (omega arith)
-stepOf-one (S.Refused n) (S.Frame k j) e = let z : _≡_ {A = ℕ} 0 1 = cc in absurd (omega arith)
-stepOf-one (S.Refused n) S.Whole e = let z : _≡_ {A = ℕ} 0 1 = cc in absurd (omega arith)
-stepOf-one (S.Refused n) S.NeedMore e = let z : _≡_ {A = ℕ} 0 1 = cc in absurd (omega arith)
-stepOf-one (S.Refused n) (S.Refused k) e = cc
+abbrev value-back : Read (Option Span) → Value
+value-back (got (some s) q) = Va.Is s (record { at = q })
+value-back (got none q) = Va.Null (record { at = q })
+value-back (bad number place) = cond (eqb number cut) Va.Cut Va.BelowNull
+
+value-again : (at : ℕ) (r : Value) → value-back (valueRead at r) ≡ r
+value-again at (Va.Is s c) = refl
+value-again at (Va.Null c) = refl
+value-again at Va.Cut = refl
+value-again at Va.BelowNull = refl
+
+abbrev listed-back : Read ListSlot → Listed
+listed-back (got l q) = L.Is l (record { at = q })
+listed-back (bad number place) = L.Refused number place
+
+listed-again : (r : Listed) → listed-back (listedRead r) ≡ r
+listed-again (L.Is l c) = refl
+listed-again (L.Refused number place) = refl
+
+abbrev passed-back : Read (Unit {0}) → Passed
+passed-back (got t q) = Pa.To (record { at = q })
+passed-back (bad number place) = Pa.Refused number place
+
+passed-again : (r : Passed) → passed-back (passedRead r) ≡ r
+passed-again (Pa.To c) = refl
+passed-again (Pa.Refused number place) = refl
+
+abbrev field-back : Read FieldDescription → FieldStep
+field-back (got d q) = F.Is d (record { at = q })
+field-back (bad number place) = F.Cut place
+
+field-again : (r : FieldStep) → field-back (fieldRead r) ≡ r
+field-again (F.Is d c) = refl
+field-again (F.Cut p) = refl
+
+abbrev error-back : Read (Each AtomSlot (errorField .atoms)) → ErrorStep
+error-back (got s q) = E.Is (s .0) (s .1 .0) (record { at = q })
+error-back (bad number place) = E.Cut place
+
+error-again : (r : ErrorStep) → error-back (errorRead r) ≡ r
+error-again (E.Is code string c) = refl
+error-again (E.Cut p) = refl
+
+abbrev step-back : Stream.Step → Step
+step-back (frame m n) = S.Frame m n
+step-back (stop whole) = S.Whole
+step-back (stop needMore) = S.NeedMore
+step-back (stop (refused number)) = S.Refused number
+
+step-again : (r : Step) → step-back (stepOf r) ≡ r
+step-again (S.Frame m n) = refl
+step-again S.Whole = refl
+step-again S.NeedMore = refl
+step-again (S.Refused number) = refl
 
 rest-one : {n m : ℕ} (r s : Span) → got r n ≡ got s m → r ≡ s
 rest-one r s e = cc
@@ -239,17 +224,17 @@ codec = record {
   signed8 = λ _ r s p q. p ∙ sym q;
   signed16 = λ _ r s p q. p ∙ sym q;
   signed32 = λ _ r s p q. p ∙ sym q;
-  byte = λ _ _ r s p q. byte-one _ r s (p ∙ sym q);
-  half = λ _ _ r s p q. half-one _ r s (p ∙ sym q);
-  word = λ _ _ r s p q. word-one _ r s (p ∙ sym q);
-  text = λ _ _ _ r s p q. text-one _ r s (p ∙ sym q);
-  value = λ _ _ r s p q. value-one _ r s (p ∙ sym q);
+  byte = λ _ _ r s p q. back-one (byteRead _) byte-back (byte-again _) r s (p ∙ sym q);
+  half = λ _ _ r s p q. back-one (halfRead _) half-back (half-again _) r s (p ∙ sym q);
+  word = λ _ _ r s p q. back-one (wordRead _) word-back (word-again _) r s (p ∙ sym q);
+  text = λ _ _ _ r s p q. back-one (textRead _) text-back (text-again _) r s (p ∙ sym q);
+  value = λ _ _ r s p q. back-one (valueRead _) value-back (value-again _) r s (p ∙ sym q);
   rest = λ _ _ r s p q. rest-one r s (p ∙ sym q);
-  count = λ _ _ _ r s p q. listed-one r s (p ∙ sym q);
-  oids = λ _ _ _ r s p q. listed-one r s (p ∙ sym q);
-  formats = λ _ _ _ r s p q. listed-one r s (p ∙ sym q);
-  «pass_values» = λ _ _ _ _ r s p q. passed-one r s (p ∙ sym q);
-  values = λ _ _ _ r s p q. listed-one r s (p ∙ sym q);
+  count = λ _ _ _ r s p q. back-one listedRead listed-back listed-again r s (p ∙ sym q);
+  oids = λ _ _ _ r s p q. back-one listedRead listed-back listed-again r s (p ∙ sym q);
+  formats = λ _ _ _ r s p q. back-one listedRead listed-back listed-again r s (p ∙ sym q);
+  «pass_values» = λ _ _ _ _ r s p q. back-one passedRead passed-back passed-again r s (p ∙ sym q);
+  values = λ _ _ _ r s p q. back-one listedRead listed-back listed-again r s (p ∙ sym q);
 }
 
 pub decode : DecodeTight
@@ -327,17 +312,17 @@ host = record {
 
 pub items : ItemsTight
 items = record {
-  «field_description» = λ _ _ _ r s p q. field-one r s (p ∙ sym q);
-  «pass_fields» = λ _ _ _ _ r s p q. passed-one r s (p ∙ sym q);
-  fields = λ _ _ _ r s p q. listed-one r s (p ∙ sym q);
-  «error_fields» = λ _ _ _ r s p q. listed-one r s (p ∙ sym q);
-  «error_field» = λ _ _ _ r s p q. error-one r s (p ∙ sym q);
-  «pass_error_fields» = λ _ _ _ _ r s p q. passed-one r s (p ∙ sym q);
+  «field_description» = λ _ _ _ r s p q. back-one fieldRead field-back field-again r s (p ∙ sym q);
+  «pass_fields» = λ _ _ _ _ r s p q. back-one passedRead passed-back passed-again r s (p ∙ sym q);
+  fields = λ _ _ _ r s p q. back-one listedRead listed-back listed-again r s (p ∙ sym q);
+  «error_fields» = λ _ _ _ r s p q. back-one listedRead listed-back listed-again r s (p ∙ sym q);
+  «error_field» = λ _ _ _ r s p q. back-one errorRead error-back error-again r s (p ∙ sym q);
+  «pass_error_fields» = λ _ _ _ _ r s p q. back-one passedRead passed-back passed-again r s (p ∙ sym q);
 }
 
 pub listing : ListingTight
 listing = record {
-  «step_at» = λ _ _ _ r s p q. stepOf-one r s (p ∙ sym q);
+  «step_at» = λ _ _ _ r s p q. back-one stepOf step-back step-again r s (p ∙ sym q);
   «opening_of» = λ _ r s p q. p ∙ sym q;
   fill = λ _ _ _ r s x y p q. fills-one p q;
 }
@@ -379,17 +364,17 @@ pub reader : ReaderTight
 reader = record {
   new = λ _ r s p q. reader-one (p .0 ∙ sym (q .0)) (p .1 ∙ sym (q .1));
   to = λ _ _ r s p q. reader-one (p .0 ∙ sym (q .0)) (p .1 ∙ sym (q .1));
-  «byte_at» = λ _ _ r s p q. byte-one _ r s (p ∙ sym q);
-  «half_at» = λ _ _ r s p q. half-one _ r s (p ∙ sym q);
-  «word_at» = λ _ _ r s p q. word-one _ r s (p ∙ sym q);
-  «string_at» = λ _ _ r s p q. text-one _ r s (p ∙ sym q);
-  «value_at» = λ _ _ r s p q. value-one _ r s (p ∙ sym q);
-  byte = λ _ r s p q. byte-one _ r s (p ∙ sym q);
-  half = λ _ r s p q. half-one _ r s (p ∙ sym q);
-  word = λ _ r s p q. word-one _ r s (p ∙ sym q);
-  string = λ _ r s p q. text-one _ r s (p ∙ sym q);
-  value = λ _ r s p q. value-one _ r s (p ∙ sym q);
-  «value_from» = λ _ _ r s p q. value-one _ r s (p ∙ sym q);
+  «byte_at» = λ _ _ r s p q. back-one (byteRead _) byte-back (byte-again _) r s (p ∙ sym q);
+  «half_at» = λ _ _ r s p q. back-one (halfRead _) half-back (half-again _) r s (p ∙ sym q);
+  «word_at» = λ _ _ r s p q. back-one (wordRead _) word-back (word-again _) r s (p ∙ sym q);
+  «string_at» = λ _ _ r s p q. back-one (textRead _) text-back (text-again _) r s (p ∙ sym q);
+  «value_at» = λ _ _ r s p q. back-one (valueRead _) value-back (value-again _) r s (p ∙ sym q);
+  byte = λ _ r s p q. back-one (byteRead _) byte-back (byte-again _) r s (p ∙ sym q);
+  half = λ _ r s p q. back-one (halfRead _) half-back (half-again _) r s (p ∙ sym q);
+  word = λ _ r s p q. back-one (wordRead _) word-back (word-again _) r s (p ∙ sym q);
+  string = λ _ r s p q. back-one (textRead _) text-back (text-again _) r s (p ∙ sym q);
+  value = λ _ r s p q. back-one (valueRead _) value-back (value-again _) r s (p ∙ sym q);
+  «value_from» = λ _ _ r s p q. back-one (valueRead _) value-back (value-again _) r s (p ∙ sym q);
   «data_row» = λ _ _ _ r s x y u v p q. row-one p q;
 }
 
