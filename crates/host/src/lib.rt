@@ -3,4 +3,5 @@
 pub mod bits;
 pub mod decoding;
 pub mod elements;
+pub mod encoding;
 pub mod rows;
