@@ -4,4 +4,5 @@ pub mod bits;
 pub mod decoding;
 pub mod elements;
 pub mod encoding;
+pub mod reading;
 pub mod rows;
