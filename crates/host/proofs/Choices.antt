@@ -12,7 +12,7 @@ use Rattle.protocol.specs.Kinds.{Kind, Mode, find}
 use Rattle.protocol.specs.Refusals.{typeUnknown}
 use Rattle.protocol.specs.WellFormed.{Contents}
 use Rattle.protocol.proofs.Find.{Apart, keysOnto}
-use Rattle.host.specs.Asked.{Asked, Row, rowNumber, askedIn, encodedAs, writtenAs, answerNumber, answerOf, leftOf, Chosen}
+use Rattle.host.specs.Asked.{Asked, Row, rowNumber, askedIn, encodedAs, writtenAs, answerNumber, Answers, Chosen}
 
 pub arm : (rows : List Row) {t n : ℕ} {m : Mode} {k : Kind} {given : Option (Contents k)} {out : List ℕ} {r : Encoded} {left : List ℕ}
     → t ≡ n → Encodes m k given out r left → askedIn rows n ≡ some (record { mode = m; kind = k; given = given }) → Chosen (askedIn rows t) out r left
@@ -44,5 +44,5 @@ unknown rows t h = rw (← append-none rows, past rows [] t h) (record { answer 
     append-none (x ∷ xs) = ap (λ (l : List Row). x ∷ l) (append-none xs)
 
 -- the answer as a number, and the output
-pub told : (a : Option Asked) {out : List ℕ} {r : Encoded} {left : List ℕ} {n : ℕ} → Chosen a out r left → n ≡ answerNumber r → (n ≡ answerOf a out) × (left ≡ leftOf a out)
-told a h e = (e ∙ ap answerNumber (h .answer), rw (← h .answer) (h .output))
+pub told : (a : Option Asked) {out : List ℕ} {r : Encoded} {left : List ℕ} {n : ℕ} → Chosen a out r left → n ≡ answerNumber r → Answers a out n left
+told a h e = record { answer = e ∙ ap answerNumber (h .answer); output = rw (← h .answer) (h .output) }
