@@ -3,4 +3,6 @@
 pub mod bits;
 pub mod decoding;
 pub mod elements;
+pub mod encoding;
+pub mod reading;
 pub mod rows;

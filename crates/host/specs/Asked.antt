@@ -1,0 +1,136 @@
+-- What a call of an encoder asks for, by the kind's number as in LaidOut's numbersOf; the number that is answered, and what the output then holds.
+use Prim.Native.Nat.{ℕ, _-_}
+use mathlib.Core.List.{List, [], _∷_, _++_}
+use mathlib.Core.Option.{Option, some, none}
+use mathlib.Core.Path.{_≡_}
+use lib.IntN.{ℤ}
+use lib.ListN.{length}
+use Rattle.protocol.specs.declared.Encoded.the-variants as N
+use Rattle.protocol.specs.declared.Encoded.{Encoded}
+use Rattle.protocol.specs.declared.data.FieldDescription.{FieldDescription}
+use Rattle.protocol.specs.declared.response.GssEncResponse.the-variants as Gss
+use Rattle.protocol.specs.declared.response.SslResponse.the-variants as Ssl
+use Rattle.protocol.specs.Encode.{encodedBy, writtenBy}
+use Rattle.protocol.specs.Kinds as K
+use Rattle.protocol.specs.Kinds.{Kind, Mode, find}
+use Rattle.protocol.specs.Refusals.{typeUnknown}
+use Rattle.protocol.specs.WellFormed.{Contents}
+use Rattle.encode.specs.Given as G
+
+-- a kind in a mode, with the content that the arguments are, if they are one
+pub record Asked : Type 0 where
+  pub mode : Mode
+  pub kind : Kind
+  pub given : Option (Contents kind)
+
+-- a number, and what it asks for
+pub record Row : Type 0 where
+  pub number : ℕ
+  pub asks : Option Asked
+
+abbrev pub row : ℕ → Mode → (k : Kind) → Option (Contents k) → Row
+row n m k given = record { number = n; asks = some (record { mode = m; kind = k; given = given }) }
+
+abbrev pub rowNumber : Row → ℕ
+rowNumber r = r .number
+
+abbrev pub asksOf : Option Row → Option Asked
+asksOf none = none
+asksOf (some r) = r .asks
+
+-- what a number asks for by a table; none where it is not there
+unfoldable pub askedIn : List Row → ℕ → Option Asked
+askedIn rows n = asksOf (find rowNumber n rows)
+
+-- ---- kinds without a list
+
+-- 0 accept, 1 refuse
+abbrev pub sslRows : List Row
+sslRows = row 0 K.tlsAnswer K.sslAccept (G.sslResponse Ssl.Accept) ∷ row 1 K.tlsAnswer K.sslRefuse (G.sslResponse Ssl.Refuse) ∷ []
+
+abbrev pub gssRows : List Row
+gssRows = row 0 K.gssAnswer K.gssAccept (G.gssEncResponse Gss.Accept) ∷ row 1 K.gssAnswer K.gssRefuse (G.gssEncResponse Gss.Refuse) ∷ []
+
+-- kinds with fields. CopyData and CopyDone are the same bytes in either direction
+abbrev pub fieldRows : ℕ → ℤ → ℤ → List ℕ → List ℕ → List Row
+fieldRows byte first second one two =
+    row 3 K.frontend K.close (G.close byte one)
+    ∷ row 4 K.frontend K.describe (G.describe byte one)
+    ∷ row 5 K.frontend K.execute (G.execute one first)
+    ∷ row 9 K.frontend K.copyData (G.copyData one)
+    ∷ row 10 K.frontend K.copyFail (G.copyFail one)
+    ∷ row 20 K.backend K.commandComplete (G.commandComplete one)
+    ∷ row 21 K.backend K.readyForQuery (G.readyForQuery byte)
+    ∷ row 27 K.backend K.notificationResponse (G.notificationResponse first one two)
+    ∷ row 28 K.cancel K.cancelRequest (G.cancelRequest first second)
+    ∷ record { number = 29; asks = askedIn sslRows byte }
+    ∷ record { number = 30; asks = askedIn gssRows byte } ∷ []
+
+abbrev pub bareRows : List Row
+bareRows =
+    row 6 K.frontend K.flush G.flush
+    ∷ row 7 K.frontend K.sync G.sync
+    ∷ row 8 K.frontend K.copyDone G.copyDone
+    ∷ row 11 K.backend K.parseComplete G.parseComplete
+    ∷ row 12 K.backend K.bindComplete G.bindComplete
+    ∷ row 13 K.backend K.closeComplete G.closeComplete
+    ∷ row 14 K.backend K.portalSuspended G.portalSuspended
+    ∷ row 15 K.backend K.noData G.noData
+    ∷ row 16 K.backend K.emptyQueryResponse G.emptyQueryResponse ∷ []
+
+abbrev pub asked : ℕ → ℕ → ℤ → ℤ → List ℕ → List ℕ → Option Asked
+asked kind byte first second one two = askedIn (fieldRows byte first second one two ++ bareRows) kind
+
+-- ---- kinds with a list of numbers, values or strings
+
+abbrev pub listRows : ℤ → List ℕ → List ℕ → List ℕ → List ℕ → List ℤ → List ℤ → List ℤ → List Row
+listRows format one two joined words lengths formats results =
+    row 1 K.frontend K.parse (G.parse one two words)
+    ∷ row 2 K.frontend K.bind (G.bind one two formats lengths joined results)
+    ∷ row 18 K.backend K.parameterDescription (G.parameterDescription words)
+    ∷ row 19 K.backend K.dataRow (G.dataRow lengths joined)
+    ∷ row 22 K.backend K.errorResponse (G.errorResponse one words joined)
+    ∷ row 23 K.backend K.noticeResponse (G.noticeResponse one words joined)
+    ∷ row 24 K.backend K.copyInResponse (G.copyInResponse format formats)
+    ∷ row 25 K.backend K.copyOutResponse (G.copyOutResponse format formats)
+    ∷ row 26 K.backend K.copyBothResponse (G.copyBothResponse format formats) ∷ []
+
+abbrev pub askedLists : ℕ → ℤ → List ℕ → List ℕ → List ℕ → List ℕ → List ℤ → List ℤ → List ℤ → Option Asked
+askedLists kind format one two joined words lengths formats results = askedIn (listRows format one two joined words lengths formats results) kind
+
+-- ---- a row's description
+
+abbrev pub askedRow : List FieldDescription → List ℕ → Option Asked
+askedRow fields run = some (record { mode = K.backend; kind = K.rowDescription; given = G.rowDescription fields run })
+
+-- ---- the answer and the output
+
+-- what is not known is refused as an unknown type or answer byte; else the encoders' own answer
+unfoldable pub encodedAs : Option Asked → ℕ → Encoded
+encodedAs none room = N.Refused typeUnknown 0
+encodedAs (some a) room = encodedBy (a .mode) (a .kind) (a .given) room
+
+unfoldable pub writtenAs : Option Asked → Encoded → List ℕ → List ℕ
+writtenAs none r out = out
+writtenAs (some a) r out = writtenBy (a .mode) (a .kind) (a .given) r out
+
+-- the bytes written; or the largest number less the refusal's number. The refusal's place is left out: an encoder's is always 0
+abbrev pub answerNumber : Encoded → ℕ
+answerNumber (N.Done n) = n
+answerNumber (N.Refused number place) = 18446744073709551615 - number
+
+abbrev pub answerOf : Option Asked → List ℕ → ℕ
+answerOf a out = answerNumber (encodedAs a (length out))
+
+abbrev pub leftOf : Option Asked → List ℕ → List ℕ
+leftOf a out = writtenAs a (encodedAs a (length out)) out
+
+-- what is promised of the answer, and of the output before and after: a choice of an encoder
+pub record Chosen (a : Option Asked) (out : List ℕ) (r : Encoded) (left : List ℕ) : Type 0 where
+  pub answer : r ≡ encodedAs a (length out)
+  pub output : left ≡ writtenAs a r out
+
+-- and an exported encoder
+pub record Answers (a : Option Asked) (out : List ℕ) (n : ℕ) (left : List ℕ) : Type 0 where
+  pub answer : n ≡ answerOf a out
+  pub output : left ≡ leftOf a out
