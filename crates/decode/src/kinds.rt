@@ -1,7 +1,8 @@
 // The choice by kind: a frame's own type byte tells its decoder.
 ghost use mathlib.Core.Path.{_≡_};
 ghost use Rattle.protocol.specs.Kinds as K;
-ghost use Rattle.bodies.specs.Steps.{bodyTold};
+ghost use Rattle.protocol.specs.Kinds.{kindIn};
+ghost use Rattle.bodies.specs.Steps.{bodyAs, bodyTold};
 ghost use Rattle.decode.specs.Steps.{bodyIn};
 use bodies::cancel;
 use bodies::copy;
@@ -42,14 +43,10 @@ use protocol::response::MESSAGE_TYPE_BYTE_NOTICE_RESPONSE;
 use protocol::response::MESSAGE_TYPE_BYTE_NOTIFICATION_RESPONSE;
 use protocol::response::MESSAGE_TYPE_BYTE_READY_FOR_QUERY;
 
-// A frame from the frontend.
-fn frontend(rules: Rules, frame: &[u8]) -> Body
-    ensures { λ r. ⌜ r ≡ bodyTold rules K.frontend (now (frame .entry)) ⌝ }
+// A kind of the frontend.
+fn frontend_kind(rules: Rules, type_byte: u8, frame: &[u8]) -> Body
+    ensures { λ r. ⌜ r ≡ bodyAs rules K.typed (now (frame .entry)) (kindIn K.frontend «type_byte») ⌝ }
 {
-    let c = Cursor { at: 0 };
-    let Byte::Is(type_byte, _) = c.byte(frame) else {
-        return Body::Refused(TYPE_UNKNOWN, 0);
-    };
     match type_byte {
         MESSAGE_TYPE_BYTE_PARSE => extendedquery::parse(rules, frame),
         MESSAGE_TYPE_BYTE_BIND => extendedquery::bind(rules, frame),
@@ -65,14 +62,10 @@ fn frontend(rules: Rules, frame: &[u8]) -> Body
     }
 }
 
-// A frame from the backend.
-fn backend(rules: Rules, frame: &[u8]) -> Body
-    ensures { λ r. ⌜ r ≡ bodyTold rules K.backend (now (frame .entry)) ⌝ }
+// A kind of the backend.
+fn backend_kind(rules: Rules, type_byte: u8, frame: &[u8]) -> Body
+    ensures { λ r. ⌜ r ≡ bodyAs rules K.typed (now (frame .entry)) (kindIn K.backend «type_byte») ⌝ }
 {
-    let c = Cursor { at: 0 };
-    let Byte::Is(type_byte, _) = c.byte(frame) else {
-        return Body::Refused(TYPE_UNKNOWN, 0);
-    };
     match type_byte {
         MESSAGE_TYPE_BYTE_PARSE_COMPLETE => extendedquery::parse_complete(rules, frame),
         MESSAGE_TYPE_BYTE_BIND_COMPLETE => extendedquery::bind_complete(rules, frame),
@@ -95,6 +88,28 @@ fn backend(rules: Rules, frame: &[u8]) -> Body
         MESSAGE_TYPE_BYTE_COPY_DATA => copy::copy_data(rules, frame),
         _ => Body::Refused(TYPE_UNKNOWN, 0),
     }
+}
+
+// A frame from the frontend. The choice is a function by itself, so that the compiler puts each kind's decoder into it.
+fn frontend(rules: Rules, frame: &[u8]) -> Body
+    ensures { λ r. ⌜ r ≡ bodyTold rules K.frontend (now (frame .entry)) ⌝ }
+{
+    let c = Cursor { at: 0 };
+    let Byte::Is(type_byte, _) = c.byte(frame) else {
+        return Body::Refused(TYPE_UNKNOWN, 0);
+    };
+    frontend_kind(rules, type_byte, frame)
+}
+
+// A frame from the backend, likewise.
+fn backend(rules: Rules, frame: &[u8]) -> Body
+    ensures { λ r. ⌜ r ≡ bodyTold rules K.backend (now (frame .entry)) ⌝ }
+{
+    let c = Cursor { at: 0 };
+    let Byte::Is(type_byte, _) = c.byte(frame) else {
+        return Body::Refused(TYPE_UNKNOWN, 0);
+    };
+    backend_kind(rules, type_byte, frame)
 }
 
 // The body of a whole frame.
