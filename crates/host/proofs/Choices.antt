@@ -14,13 +14,17 @@ use Rattle.protocol.specs.WellFormed.{Contents}
 use Rattle.protocol.proofs.Find.{Apart, keysOnto}
 use Rattle.host.specs.Asked.{Asked, Row, rowNumber, askedIn, encodedAs, writtenAs, answerNumber, Answers, Chosen}
 
-pub arm : (rows : List Row) {t n : ℕ} {m : Mode} {k : Kind} {given : Option (Contents k)} {out : List ℕ} {r : Encoded} {left : List ℕ}
-    → t ≡ n → Encodes m k given out r left → askedIn rows n ≡ some (record { mode = m; kind = k; given = given }) → Chosen (askedIn rows t) out r left
+pub asks : {m : Mode} {k : Kind} {given : Option (Contents k)} {out : List ℕ} {r : Encoded} {left : List ℕ}
+    → Encodes m k given out r left → Chosen (some (record { mode = m; kind = k; given = given })) out r left
 unfolding encodedAs writtenAs
-arm rows e h is = rw (e, is) (record { answer = h .answer; output = h .output })
+asks h = record { answer = h .answer; output = h .output }
 
 pub chosen : (rows : List Row) {t n : ℕ} {a : Option Asked} {out : List ℕ} {r : Encoded} {left : List ℕ} → t ≡ n → Chosen a out r left → askedIn rows n ≡ a → Chosen (askedIn rows t) out r left
 chosen rows e h is = rw (e, is) h
+
+pub arm : (rows : List Row) {t n : ℕ} {m : Mode} {k : Kind} {given : Option (Contents k)} {out : List ℕ} {r : Encoded} {left : List ℕ}
+    → t ≡ n → Encodes m k given out r left → askedIn rows n ≡ some (record { mode = m; kind = k; given = given }) → Chosen (askedIn rows t) out r left
+arm rows e h is = chosen rows e (asks h) is
 
 -- a number that is none of the first rows' is looked for among the others
 find-past : (t : ℕ) (xs ys : List Row) (ks : List ℕ) → Apart t (keysOnto rowNumber xs ks) → (find rowNumber t (xs ++ ys) ≡ find rowNumber t ys) × Apart t ks
