@@ -15,6 +15,7 @@ use protocol::Span;
 use protocol::refusal::BAD_COUNT;
 use protocol::refusal::CUT;
 use protocol::refusal::NOT_ALLOWED;
+use scan::zero_from;
 
 pub struct Cursor {
     pub at: usize,
@@ -150,20 +151,18 @@ impl Cursor {
         ensures { λ r. ⌜ textRead (self .at) r ≡ readAtom rules text (now (frame .entry)) (self .at) ⌝ }
     {
         let start = self.at;
-        let mut i = start;
-        while i < frame.len() {
-            if frame[i] == 0 {
-                return Text::Is(
-                    Span {
-                        start,
-                        len: i - start,
-                    },
-                    Cursor { at: i + 1 },
-                );
-            }
-            i += 1;
+        let zero = zero_from(frame, start);
+        if zero < frame.len() {
+            Text::Is(
+                Span {
+                    start,
+                    len: zero - start,
+                },
+                Cursor { at: zero + 1 },
+            )
+        } else {
+            Text::Cut
         }
-        Text::Cut
     }
 
     // A value: a signed 32-bit length and that many bytes, or NULL.
