@@ -1,5 +1,5 @@
 -- A number of a frame, byte by byte.
-use Prim.Native.Nat.{ℕ, zero, suc, _+_, _*_, _≤_, _<_}
+use Prim.Native.Nat.{ℕ, zero, suc, _+_, _*_, _/_, _%_, _≤_, _<_}
 use mathlib.Core.List.{List, [], _∷_}
 use mathlib.Core.Path.{_≡_, refl, ap, _∙_, sym}
 use native.Mathlib.Nat.{add-suc}
@@ -41,3 +41,17 @@ module _ (f : List ℕ) (p : ℕ) where
   pub number-cut : (w : ℕ) → length f < p + w → bad cut p ≡ readNumber w f p
   unfolding readNumber
   number-cut w h = rw (lt-leb (p + w) (length f) h) refl
+
+rest : (y b q : ℕ) → b < 256 → y ≡ b + 256 * q → y % 256 ≡ b
+rest y b q h e = omega arith
+
+-- four bytes in one order and in the other
+pub turned-four : (x a b c d : ℕ) → a < 256 → b < 256 → c < 256 → d < 256 → x ≡ a + b * 256 + c * 65536 + d * 16777216 → x % 256 * 16777216 + x / 256 % 256 * 65536 + x / 65536 % 256 * 256 + x / 16777216 ≡ a * 16777216 + b * 65536 + c * 256 + d
+turned-four x a b c d ha hb hc hd e =
+    let ea : x % 256 ≡ a = omega arith in
+    let above-a : x / 256 ≡ b + 256 * (c + d * 256) = omega arith in
+    let above-b : x / 65536 ≡ c + 256 * d = omega arith in
+    let eb : x / 256 % 256 ≡ b = rest (x / 256) b (c + d * 256) hb above-a in
+    let ec : x / 65536 % 256 ≡ c = rest (x / 65536) c d hc above-b in
+    let ed : x / 16777216 ≡ d = omega arith in
+    cc

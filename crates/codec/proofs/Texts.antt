@@ -1,49 +1,51 @@
--- The scan for a string's zero byte, one byte at a time.
+-- A string, by the place of its zero byte.
 use Prim.Native.Nat.{ℕ, suc, _+_, _-_, _≤_, _<_}
+use mathlib.Core.Bool.{Bool, true, false, cond}
 use mathlib.Core.List.{List, [], _∷_}
 use mathlib.Core.Option.{Option, some, none}
 use mathlib.Core.Path.{_≡_, refl, ap}
-use native.Mathlib.Numerals.{add-one}
 use native.Mathlib.Omega.{arith}
-use borrow.Author.Tests.{eq-eqb, ne-eqb}
-use lib.ListN.{length, getD, drop, drop-of-length-le}
-use lib.Seq.{drop-cons}
+use lib.Dec.{eqb}
+use lib.ListN.{length, drop, length-drop}
 use Rattle.protocol.specs.declared.Span.{Span}
-use Rattle.protocol.specs.Reading.{Read, got, bad, oneMore, zeroIn, textAt, readText}
+use Rattle.protocol.specs.Reading.{Read, got, bad, oneMore, zeroIn, readText, textAt}
 use Rattle.protocol.specs.Refusals.{cut}
+use Rattle.scan.specs.Zero.{before, zeroFrom}
 
--- a string that starts at s, its zero byte looked for from i on
-unfoldable pub textFrom : ℕ → ℕ → Option ℕ → Read Span
-textFrom s i none = bad cut s
-textFrom s i (some n) = got (record { start = s; len = (i - s) + n }) (i + n + 1)
+module _ (z : Option ℕ) (n m : ℕ) where
+  found-by : (b : Bool) → (n < m → z ≡ some n) → cond b 0 (suc n) < suc m → cond b (some 0) (oneMore z) ≡ some (cond b 0 (suc n))
+  unfolding oneMore
+  found-by true then h = refl
+  found-by false then h = ap oneMore (then (omega arith))
 
-begin : (s : ℕ) (z : Option ℕ) → textAt s z ≡ textFrom s s z
-unfolding textAt textFrom
-begin s none = refl
-begin s (some n) = ap (λ (m : ℕ). got (record { start = s; len = m }) (s + n + 1)) (omega arith)
+  missed-by : (b : Bool) → (m ≤ n → z ≡ none) → suc m ≤ cond b 0 (suc n) → cond b (some 0) (oneMore z) ≡ none
+  unfolding oneMore
+  missed-by true then h = absurd (omega arith)
+  missed-by false then h = ap oneMore (then (omega arith))
 
-pub at-start : (f : List ℕ) (s : ℕ) → readText f s ≡ textFrom s s (zeroIn (drop s f))
-unfolding readText
-at-start f s = begin s (zeroIn (drop s f))
+found : (bs : List ℕ) → before bs < length bs → zeroIn bs ≡ some (before bs)
+unfolding before zeroIn
+found [] h = absurd (omega arith)
+found (b ∷ bs) h = found-by (zeroIn bs) (before bs) (length bs) (eqb b 0) (found bs) h
 
--- one byte passed
-pub later : (s i : ℕ) (z : Option ℕ) → s ≤ i → textFrom s i (oneMore z) ≡ textFrom s (i + 1) z
-unfolding textFrom oneMore
-later s i none h = refl
-later s i (some n) h =
-    let l : (i - s) + suc n ≡ ((i + 1) - s) + n = omega arith in
-    let a : i + suc n + 1 ≡ (i + 1) + n + 1 = omega arith in
-    cc
+missed : (bs : List ℕ) → length bs ≤ before bs → zeroIn bs ≡ none
+unfolding before zeroIn
+missed [] h = refl
+missed (b ∷ bs) h = missed-by (zeroIn bs) (before bs) (length bs) (eqb b 0) (missed bs) h
 
-module _ (f : List ℕ) (i : ℕ) (h : i < length f) where
-  pub at-zero : getD f i 0 ≡ 0 → zeroIn (drop i f) ≡ some 0
-  unfolding zeroIn
-  at-zero e = rw (drop-cons f i 0 h) (rw (eq-eqb _ _ e) refl)
+-- r is what the scan from p gives
+module _ (f : List ℕ) (p r : ℕ) (e : r ≡ zeroFrom f p) where
+  pub not-before : p ≤ r
+  unfolding zeroFrom
+  not-before = omega (arith, e)
 
-  pub at-other : (getD f i 0 ≡ 0 → ⊥) → zeroIn (drop i f) ≡ oneMore (zeroIn (drop (i + 1) f))
-  unfolding zeroIn
-  at-other e = rw (add-one, drop-cons f i 0 h) (rw (ne-eqb _ _ e) refl)
+  pub at-zero : r < length f → got (record { start = p; len = r - p }) (r + 1) ≡ readText f p
+  unfolding zeroFrom readText textAt
+  at-zero h =
+      let len : r - p ≡ before (drop p f) = omega (arith, e) in
+      let next : r + 1 ≡ p + before (drop p f) + 1 = omega (arith, e) in
+      rw (found (drop p f) (simp length-drop (omega (arith, e))), len, next) refl
 
-pub at-end : (f : List ℕ) (i : ℕ) → length f ≤ i → zeroIn (drop i f) ≡ none
-unfolding zeroIn
-at-end f i h = rw (drop-of-length-le f {i = i} h) refl
+  pub at-end : length f ≤ r → bad cut p ≡ readText f p
+  unfolding zeroFrom readText textAt
+  at-end h = rw (missed (drop p f) (simp length-drop (omega (arith, e)))) refl

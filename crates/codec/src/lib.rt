@@ -1,8 +1,8 @@
 // The cursor over one frame, as codec.rs reads a buffer: it goes in by value and comes back advanced, or the answer is a fault.
 // The frame ends where the lent slice ends, so nothing past it can be read.
-ghost use Prim.Native.Nat.{_<_};
+ghost use Prim.Native.Nat.{_+_, _*_, _/_, _%_, _≤_, _<_};
 ghost use mathlib.Core.Path.{_≡_};
-ghost use lib.ListN.{length};
+ghost use lib.ListN.{getD, length};
 ghost use Rattle.protocol.specs.Bytes.{signedOf};
 ghost use Rattle.protocol.specs.Fields.{signedCount, text};
 ghost use Rattle.protocol.specs.Kinds.{formats, nullable, oids, values};
@@ -15,6 +15,7 @@ use protocol::Span;
 use protocol::refusal::BAD_COUNT;
 use protocol::refusal::CUT;
 use protocol::refusal::NOT_ALLOWED;
+use scan::zero_from;
 
 pub struct Cursor {
     pub at: usize,
@@ -98,6 +99,25 @@ fn wide(x: u8) -> u32
     x as u32
 }
 
+// Four bytes as one number, the first the least: the compiler makes one load of it.
+fn four(s: &[u8], at: usize) -> u32
+    requires { ⌜ at + 4 ≤ length (now s) ⌝ }
+    ensures { λ r. ⌜ r ≡ getD (now (s .entry)) at 0 + getD (now (s .entry)) (at + 1) 0 * 256 + getD (now (s .entry)) (at + 2) 0 * 65536 + getD (now (s .entry)) (at + 3) 0 * 16777216 ⌝ }
+{
+    let a = wide(s[at]);
+    let b = wide(s[at + 1]);
+    let c = wide(s[at + 2]);
+    let d = wide(s[at + 3]);
+    a + b * 256 + c * 65536 + d * 16777216
+}
+
+// The same four bytes, the first the most: a byte swap.
+fn turned(x: u32) -> u32
+    ensures { λ r. ⌜ r ≡ x % 256 * 16777216 + x / 256 % 256 * 65536 + x / 65536 % 256 * 256 + x / 16777216 ⌝ }
+{
+    x % 256 * 16777216 + x / 256 % 256 * 65536 + x / 65536 % 256 * 256 + x / 16777216
+}
+
 impl Cursor {
     pub fn byte(self, frame: &[u8]) -> Byte
         ensures { λ r. ⌜ byteRead (self .at) r ≡ readNumber 1 (now (frame .entry)) (self .at) ⌝ }
@@ -135,14 +155,7 @@ impl Cursor {
         if frame.len() - at < 4 {
             return Word::Cut;
         }
-        let a = wide(frame[at]);
-        let b = wide(frame[at + 1]);
-        let c = wide(frame[at + 2]);
-        let d = wide(frame[at + 3]);
-        Word::Is(
-            a * 16777216 + b * 65536 + c * 256 + d,
-            Cursor { at: at + 4 },
-        )
+        Word::Is(turned(four(frame, at)), Cursor { at: at + 4 })
     }
 
     // A string, up to its zero byte. The rules say how texts are read.
@@ -150,20 +163,18 @@ impl Cursor {
         ensures { λ r. ⌜ textRead (self .at) r ≡ readAtom rules text (now (frame .entry)) (self .at) ⌝ }
     {
         let start = self.at;
-        let mut i = start;
-        while i < frame.len() {
-            if frame[i] == 0 {
-                return Text::Is(
-                    Span {
-                        start,
-                        len: i - start,
-                    },
-                    Cursor { at: i + 1 },
-                );
-            }
-            i += 1;
+        let zero = zero_from(frame, start);
+        if zero < frame.len() {
+            Text::Is(
+                Span {
+                    start,
+                    len: zero - start,
+                },
+                Cursor { at: zero + 1 },
+            )
+        } else {
+            Text::Cut
         }
-        Text::Cut
     }
 
     // A value: a signed 32-bit length and that many bytes, or NULL.

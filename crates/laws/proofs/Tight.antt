@@ -61,6 +61,7 @@ use Rattle.laws.specs.Tight.Pen.{PenTight}
 use Rattle.laws.specs.Tight.Protocol.{ProtocolTight}
 use Rattle.laws.specs.Tight.Reader.{ReaderTight}
 use Rattle.laws.specs.Tight.Rows.{RowsTight}
+use Rattle.laws.specs.Tight.Scan.{ScanTight}
 
 -- ---- a step's answer is told by what it reads
 
@@ -392,4 +393,9 @@ rows = record {
   each = λ _ _ _ _ r s x y p q. (p .0 ∙ sym (q .0), p .1 ∙ sym (q .1));
   begin = λ measured count out r s x y p q. (p .0 ∙ sym (q .0), p .1 ∙ ap (λ (z : Encoded). P.begun z count out) (p .0 ∙ sym (q .0)) ∙ sym (q .1));
   writer = λ _ r s p q. p ∙ sym q;
+}
+
+pub scan : ScanTight
+scan = record {
+  «zero_from» = λ _ _ r s p q. p ∙ sym q;
 }

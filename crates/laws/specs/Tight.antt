@@ -4,6 +4,7 @@
 -- a name has, not where in its text they stand.
 use mathlib.Core.Path.{_≡_}
 pub mod Protocol
+pub mod Scan
 pub mod Codec
 pub mod Pen
 pub mod Items

@@ -1,15 +1,12 @@
 -- Runs of stores, one after the other; and what a loop over a list does at each turn.
 use Prim.Native.Nat.{ℕ, suc, _+_, _≤_, _<_}
-use mathlib.Core.Bool.{true, false}
 use mathlib.Core.List.{List, [], _∷_, _++_}
 use mathlib.Core.Path.{_≡_, refl, _∙_}
 use native.Mathlib.Nat.{add-zero, zero-add}
 use native.Mathlib.Numerals.{add-one}
 use native.Mathlib.Omega.{arith}
-use borrow.Author.Tests.{eq-eqb, ne-eqb}
 use lib.ListN.{length, set, getD, drop, length-append, drop-of-length-le}
 use lib.Seq.{drop-cons, sets, sets-eq}
-use Rattle.protocol.specs.Bytes.{noZero}
 use Rattle.pen.specs.Writing.{write, Wrote}
 
 pub write-append : (d : List ℕ) (p : ℕ) (xs ys : List ℕ) → write (write d p xs) (p + length xs) ys ≡ write d p (xs ++ ys)
@@ -44,18 +41,6 @@ drop-more l i d h = rw add-one (drop-cons l i d h)
 
 pub drop-end {ℓ} : {A : Type ℓ} (l : List A) (i : ℕ) → length l ≤ i → drop i l ≡ []
 drop-end l i h = drop-of-length-le l {i = i} h
-
-pub zero-here : (l : List ℕ) (i : ℕ) → i < length l → getD l i 0 ≡ 0 → noZero (drop i l) ≡ false
-unfolding noZero
-zero-here l i h e = rw (drop-more l i 0 h) (rw (eq-eqb _ _ e) refl)
-
-pub zero-later : (l : List ℕ) (i : ℕ) → i < length l → (getD l i 0 ≡ 0 → ⊥) → noZero (drop i l) ≡ noZero (drop (i + 1) l)
-unfolding noZero
-zero-later l i h e = rw (drop-more l i 0 h) (rw (ne-eqb _ _ e) refl)
-
-pub zero-never : (l : List ℕ) (i : ℕ) → length l ≤ i → noZero (drop i l) ≡ true
-unfolding noZero
-zero-never l i h = rw (drop-end l i h) refl
 
 -- a run of stores at the start, with room for it
 write-sets : (d : List ℕ) (p : ℕ) (xs : List ℕ) → write d p xs ≡ sets d p xs

@@ -17,6 +17,7 @@ use protocol::Encoded;
 use protocol::refusal::LENGTH_ABOVE_LIMIT;
 use protocol::refusal::NOT_REPRESENTABLE;
 use protocol::refusal::OUTPUT_TOO_SHORT;
+use scan::zero_from;
 
 // ---- numbers
 
@@ -105,14 +106,7 @@ pub fn put_text(out: &mut [u8], at: usize, s: &[u8]) -> usize
 pub fn no_zero(s: &[u8]) -> bool
     ensures { λ r. ⌜ r ≡ noZero (now (s .entry)) ⌝ }
 {
-    let mut i = 0;
-    while i < s.len() {
-        if s[i] == 0 {
-            return false;
-        }
-        i += 1;
-    }
-    true
+    s.len() <= zero_from(s, 0)
 }
 
 // ---- lists

@@ -1,48 +1,31 @@
--- `pen::no_zero` meets its contract.
-use Prim.Native.Nat.{_-_}
-use mathlib.Core.Path.{_≡_, _∙_, sym}
-use native.Mathlib.Omega.{arith}
+-- `pen::no_zero` meets its contract: there is no zero byte exactly where the scan comes to the end.
+use Prim.Native.Nat.{ℕ, suc}
+use mathlib.Core.Bool.{Bool, true, false, cond, not, _&&_}
+use mathlib.Core.List.{List, [], _∷_}
+use mathlib.Core.Path.{_≡_, refl, ap, _∙_}
+use native.Mathlib.Nat.{zero-add}
 use borrow.Author.Needs.{needs}
-use lib.ListN.{length, drop}
+use lib.Dec.{eqb, leb, leb·suc-suc, leb·suc-zero}
+use lib.ListN.{length}
 use Rattle.protocol.specs.Bytes.{noZero}
-use Rattle.pen.proofs.Laws.{zero-here, zero-later, zero-never}
+use Rattle.scan.specs.Zero.{before, zeroFrom}
 use Rattle.pen.proofs.no_zero.Statement.{statement}
 use Rattle.pen.proofs.no_zero.Tie as tie
 
-abbrev Inv-loop : tie.InvT-loop
-Inv-loop s i₀ i = noZero s ≡ noZero (drop i s)
+by : (b : Bool) (m n : ℕ) → leb (suc m) (cond b 0 (suc n)) ≡ not b && leb m n
+by true m n = leb·suc-zero m
+by false m n = leb·suc-suc m n
 
-abbrev μ-loop : tie.MeasureT-loop
-μ-loop s i₀ i = length s - i
+to-the-end : (s : List ℕ) → leb (length s) (before s) ≡ noZero s
+unfolding noZero before
+to-the-end [] = refl
+to-the-end (b ∷ bs) = by (eqb b 0) (length bs) (before bs) ∙ ap (λ x. not (eqb b 0) && x) (to-the-end bs)
 
-returns : tie.Need-returns Inv-loop μ-loop
+returns : tie.Need-returns
+unfolding zeroFrom
 returns c =
-    let q = c .before .before .before .loop in
-    let s = c .before .before .before .before .args .s .now in
-    sym (q .inv ∙ zero-here s (q .i) (omega arith) (c .if1 .taken))
-
-loop-again : tie.Need-loop-again Inv-loop μ-loop
-loop-again c =
-    let q = c .before .before .before .loop in
-    let s = c .before .before .before .before .args .s .now in
-    q .inv ∙ zero-later s (q .i) (omega arith) (c .if1 .left)
-
-returns-2 : tie.Need-returns-2 Inv-loop μ-loop
-returns-2 c =
-    let q = c .before .loop in
     let s = c .before .before .args .s .now in
-    sym (q .inv ∙ zero-never s (q .i) (c .loop-test .left))
+    ap (leb (length s)) (c .zero-from .ensures ∙ zero-add (before s)) ∙ to-the-end s
 
 pub no-zero-spec : {M : Type 1} → statement M
-no-zero-spec =
-    tie.close
-    (tie.spec
-    Inv-loop
-    μ-loop
-    (λ c. search needs)
-    (λ c. search needs)
-    returns
-    (λ c. search needs)
-    (λ c. search needs)
-    loop-again
-    returns-2)
+no-zero-spec = tie.close (tie.spec (λ c κs. search needs) returns)
