@@ -17,15 +17,11 @@ use Rattle.protocol.specs.Fields.{ItemContent, ended, able, bytes, atomAble, at
 use Rattle.protocol.specs.Kinds.{errorField}
 use Rattle.pen.specs.Given.{isSome, WroteGiven}
 use Rattle.pen.specs.Writing.{write, Wrote}
-use Rattle.pen.proofs.GivenLaws.{first, some-first, and-left}
+use Rattle.pen.proofs.GivenLaws.{first, some-first}
 use Rattle.pen.proofs.Laws.{drop-more, drop-end, _then_}
-use Rattle.pen.proofs.Lists.{and-true, and-right}
+use Rattle.pen.proofs.Lists.{and-true, and-false, and-left, and-right}
 
 -- ---- when there are fields
-
-and-false : (a : Bool) → a && false ≡ false
-and-false true = refl
-and-false false = refl
 
 next : (c n : ℕ) (cs ns bs : List ℕ) → isSome (errorFieldsGiven (c ∷ cs) (n ∷ ns) bs) ≡ leb n (length bs) && isSome (errorFieldsGiven cs ns (drop n bs))
 unfolding errorFieldsGiven

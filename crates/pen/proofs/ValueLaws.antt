@@ -22,9 +22,9 @@ use Rattle.protocol.specs.Fields.{ItemContent, able, bytes, atomAble, atomBytes
 use Rattle.protocol.specs.Kinds.{nullable, values}
 use Rattle.pen.specs.Given.{isSome, sizeOf, WroteGiven}
 use Rattle.pen.specs.Writing.{write, Wrote}
-use Rattle.pen.proofs.GivenLaws.{first, some-first, and-left}
+use Rattle.pen.proofs.GivenLaws.{first, some-first}
 use Rattle.pen.proofs.Laws.{drop-more, drop-end, _then_}
-use Rattle.pen.proofs.Lists.{and-true, and-right}
+use Rattle.pen.proofs.Lists.{and-true, and-left, and-right}
 
 -- ---- the size of a value
 
