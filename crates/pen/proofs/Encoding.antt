@@ -51,15 +51,21 @@ only e = cc
 
 -- the head, for a frame of n bytes, and then the body
 pub framed : {d mid left : List ℕ} {n at next size : ℕ} (k : Kind) (c : Contents k)
-    → Put (leb 5 n && leb n 1048577) d 0 (header typed (k .tag) (n - 5)) 5 mid at → Fits mid at (bodyBytes k c) size left next → n ≡ 5 + size
-    → n ≤ 1048577 → n ≤ length d → Framed typed k (some c) d left
+    → Wrote d 0 (header typed (k .tag) (n - 5)) 5 mid at → Wrote mid at (bodyBytes k c) size left next → n ≡ 5 + size
+    → Framed typed k (some c) d left
 unfolding frame
-framed {d} {mid} {left} {n} {size = size} k c head body e small room =
-    let h = headed head (omega arith) small room in
-    let b = body (omega (arith, h .place, same-size h)) in
+framed {d} {mid} {left} {n} k c h b e =
     let f : length (bodyBytes k c) ≡ n - 5 = omega (arith, b .size) in
     let w : left ≡ write d 0 (frame typed k c) = rw f ((h then b) .bytes) in
     record { bytes = λ x is. w ∙ ap (λ (y : Contents k). write d 0 (frame typed k y)) (only is) }
+
+-- the same, by writers that look for their room
+pub framed-put : {d mid left : List ℕ} {n at next size : ℕ} (k : Kind) (c : Contents k)
+    → Put (leb 5 n && leb n 1048577) d 0 (header typed (k .tag) (n - 5)) 5 mid at → Fits mid at (bodyBytes k c) size left next → n ≡ 5 + size
+    → n ≤ length d → n ≤ 1048577 → Framed typed k (some c) d left
+framed-put k c head body e room small =
+    let h = headed head (omega arith) room small in
+    framed k c h (body (omega (arith, h .place, same-size h))) e
 
 -- in any envelope, head and body at once
 pub framed-whole : {d left : List ℕ} {e : Envelope} {n next : ℕ} (k : Kind) (c : Contents k) → Wrote d 0 (frame e k c) n left next → Framed e k (some c) d left

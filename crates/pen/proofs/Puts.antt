@@ -61,5 +61,5 @@ pub none : {d : List ℕ} {p : ℕ} → Fits d p [] 0 d p
 none h = record { bytes = refl; size = refl; place = omega arith }
 
 -- the head of a frame of n bytes, where they are a frame and have room
-pub headed : {d xs out : List ℕ} {n next : ℕ} → Put (leb 5 n && leb n 1048577) d 0 xs 5 out next → 5 ≤ n → n ≤ 1048577 → n ≤ length d → Wrote d 0 xs 5 out next
-headed {n = n} w some small room = w .fits (rw (le-leb 5 n some, le-leb n 1048577 small) refl) (omega arith)
+pub headed : {d xs out : List ℕ} {n next : ℕ} → Put (leb 5 n && leb n 1048577) d 0 xs 5 out next → 5 ≤ n → n ≤ length d → n ≤ 1048577 → Wrote d 0 xs 5 out next
+headed {n = n} w some room small = w .fits (rw (le-leb 5 n some, le-leb n 1048577 small) refl) (omega arith)

@@ -38,7 +38,7 @@ returns-2 c =
     let v = r .before .before in
     let a = v .before .before .before .before .args in
     let h = roomy-of (a .measured) (a .count) (length (now (a .out))) _ (sym (says v) ∙ r .r .given .1) in
-    let e = headed (p .put-head .ensures) (omega (arith, h .whole)) (h .small) (h .fits) in
+    let e = headed (p .put-head .ensures) (omega (arith, h .whole)) (h .fits) (h .small) in
     let w = k .put-half .ensures .fits refl (omega (arith, h .whole, h .fits, e .place)) in
     (sym (r .r .given .1) ∙ says v, w .bytes ∙ (λ j. write (e .bytes j) (e .place j) (be 2 (a .count))))
 
