@@ -1,18 +1,36 @@
 -- `encode::put_values` meets its contract.
-use Prim.Native.Nat.{_+_, _*_, _-_, _≤_}
+use Prim.Native.Nat.{ℕ, _+_, _*_, _-_, _≤_}
 use mathlib.Core.Bool.{true}
+use mathlib.Core.List.{List}
 use mathlib.Core.Path.{_≡_, refl, ap, _∙_, sym}
 use native.Mathlib.Omega.{arith}
 use borrow.Author.Needs.{needs}
+use lib.IntN.{ℤ}
 use lib.ListN.{length, drop, length-take, length-drop}
+use Rattle.protocol.specs.Bytes.{be}
 use Rattle.protocol.specs.Encode.{valuesGiven}
+use Rattle.protocol.specs.Fields.{bytes}
+use Rattle.protocol.specs.Kinds.{values}
 use Rattle.pen.specs.Given.{isSome}
-use Rattle.pen.specs.Writing.{write}
+use Rattle.pen.specs.Writing.{write, Wrote}
 use Rattle.pen.proofs.Laws.{turn, _then_, drop-end}
 use Rattle.pen.proofs.Puts.{same-size}
-use Rattle.pen.proofs.ValueLaws.{value-right, value-over, valuesBytes, values-more, values-field}
+use Rattle.pen.proofs.ValueLaws.{value-right, value-over, valuesBytes, values-more, values-are}
+use Rattle.encode.specs.Writing.{WroteGiven}
 use Rattle.encode.proofs.put_values.Statement.{statement}
 use Rattle.encode.proofs.put_values.Tie as tie
+
+-- the count, and then the values
+values-field : {d mid out : List ℕ} {p at next : ℕ} (zs : List ℤ) (bs : List ℕ)
+    → Wrote d p (be 2 (length zs)) 2 mid at → out ≡ write mid at (valuesBytes zs bs) → next ≡ at + (4 * length zs + length bs)
+    → WroteGiven values (valuesGiven zs bs) d p (2 + (4 * length zs + length bs)) out next
+unfolding bytes
+values-field zs bs w e at = record {
+  field = λ vs is.
+      let v = values-are zs bs vs is in
+      rw (v .many, v .written) (w then record { bytes = e; size = v .size; place = at });
+  place = omega (arith, w .place);
+}
 
 -- what is left to write
 abbrev Inv-loop : tie.InvT-loop

@@ -1,17 +1,34 @@
 -- `encode::response::put_errors` meets its contract.
-use Prim.Native.Nat.{_+_, _*_, _-_, _≤_}
+use Prim.Native.Nat.{ℕ, _+_, _*_, _-_, _≤_, _<_}
 use mathlib.Core.Bool.{true}
+use mathlib.Core.List.{List, [], _∷_}
 use mathlib.Core.Path.{_≡_, refl, ap, _∙_, sym}
 use native.Mathlib.Omega.{arith}
 use borrow.Author.Needs.{needs}
 use lib.ListN.{length, getD, drop, length-take, length-drop}
 use Rattle.protocol.specs.Encode.{errorFieldsGiven}
+use Rattle.protocol.specs.Fields.{ended, bytes}
+use Rattle.protocol.specs.Kinds.{errorField}
 use Rattle.pen.specs.Given.{isSome}
-use Rattle.pen.specs.Writing.{write}
+use Rattle.pen.specs.Writing.{write, Wrote}
 use Rattle.pen.proofs.Laws.{turn, _then_}
-use Rattle.pen.proofs.ErrorLaws.{errors-many, error-right, error-over, errorsBytes, errors-more, errors-none, errors-field}
+use Rattle.pen.proofs.ErrorLaws.{errors-many, error-right, error-over, errorsBytes, errors-more, errors-none, errors-are}
+use Rattle.encode.specs.Writing.{WroteGiven}
 use Rattle.encode.proofs.response.put_errors.Statement.{statement}
 use Rattle.encode.proofs.response.put_errors.Tie as tie
+
+-- the fields, and then the zero byte
+errors-field : {d mid out : List ℕ} {p at next : ℕ} (cs ns bs : List ℕ) → ((i : ℕ) → getD cs i 0 < 256)
+    → mid ≡ write d p (errorsBytes cs ns bs) → at ≡ p + (2 * length cs + length bs) → Wrote mid at (0 ∷ []) 1 out next
+    → WroteGiven (ended errorField) (errorFieldsGiven cs ns bs) d p (2 * length cs + length bs + 1) out next
+unfolding bytes
+errors-field {d} {mid} {out} {p} {at} cs ns bs small e is-at w = record {
+  field = λ fs is.
+      let v = errors-are cs ns bs fs small is in
+      let u : Wrote d p (errorsBytes cs ns bs) (2 * length cs + length bs) mid at = record { bytes = e; size = v .size; place = is-at } in
+      rw (v .written) (u then w);
+  place = omega (arith, w .place);
+}
 
 -- what is left to write
 abbrev Inv-loop : tie.InvT-loop
