@@ -8,7 +8,7 @@ use borrow.Author.Tests.{leb-true, leb-false, le-leb, lt-leb}
 use lib.Dec.{leb}
 use lib.ListN.{length, set, length-set}
 use Rattle.pen.specs.Writing.{write, Wrote, Put}
-use Rattle.pen.proofs.Laws.{_then_}
+use Rattle.pen.proofs.Laws.{_then_, nothing}
 use Rattle.pen.proofs.Lists.{and-left, and-right}
 
 -- the test, as the code makes it
@@ -58,7 +58,7 @@ pub _and_ : {d d′ d″ xs ys : List ℕ} {p p′ p″ n m : ℕ} → Fits d p 
 _and_ a b h = let w = a (omega arith) in w then b (omega (arith, w .place, same-size w))
 
 pub none : {d : List ℕ} {p : ℕ} → Fits d p [] 0 d p
-none h = record { bytes = refl; size = refl; place = omega arith }
+none h = nothing
 
 -- the head of a frame of n bytes, where they are a frame and have room
 pub headed : {d xs out : List ℕ} {n next : ℕ} → Put (leb 5 n && leb n 1048577) d 0 xs 5 out next → 5 ≤ n → n ≤ length d → n ≤ 1048577 → Wrote d 0 xs 5 out next
