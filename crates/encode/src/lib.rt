@@ -5,18 +5,26 @@ pub mod data;
 pub mod extendedquery;
 pub mod response;
 
-ghost use Prim.Native.Nat.{_+_, _≤_};
+ghost use Prim.Native.Nat.{_+_, _*_, _≤_};
+ghost use mathlib.Core.Bool.{true};
 ghost use mathlib.Core.Option.{some};
 ghost use mathlib.Core.Path.{_≡_};
 ghost use lib.ListN.{length};
-ghost use Rattle.protocol.specs.Encode.{Encodes};
-ghost use Rattle.protocol.specs.Kinds.{frontend, typed};
+ghost use Rattle.protocol.specs.Encode.{Encodes, valuesGiven};
+ghost use Rattle.protocol.specs.Kinds.{frontend, typed, values};
+ghost use Rattle.pen.specs.Given.{isSome};
 ghost use Rattle.pen.specs.Writing.{Framed};
 ghost use Rattle.encode.specs.Given.{fieldless, textOf, texted};
+ghost use Rattle.encode.specs.Writing.{WroteGiven};
+use pen::bits32;
 use pen::no_zero;
 use pen::plus;
+use pen::put_bytes;
+use pen::put_half;
 use pen::put_head;
 use pen::put_text;
+use pen::put_word;
+use pen::values::size_of;
 use pen::verdict;
 use protocol::Encoded;
 use protocol::kinds::SMALL;
@@ -60,4 +68,25 @@ fn one_text(type_byte: u8, s: &[u8], out: &mut [u8]) -> Encoded
     };
     write_one_text(type_byte, s, n, out);
     r
+}
+
+// ---- values, which come as lengths (-1 for NULL) and their joined bytes
+
+// Their count; then the length of each, and its bytes.
+fn put_values(out: &mut [u8], at: usize, lengths: &[i32], joined: &[u8]) -> usize
+    requires { ⌜ (at + 4 * length (now lengths) + length (now joined) + 2 ≤ length (now out)) × (length (now lengths) ≤ 32767) × (isSome (valuesGiven (now lengths) (now joined)) ≡ true) ⌝ }
+    ensures { λ r. ⌜ WroteGiven values (valuesGiven (now (lengths .entry)) (now (joined .entry))) (now (out .entry)) at (2 + (4 * length (now (lengths .entry)) + length (now (joined .entry)))) (now (out .exit)) r ⌝ }
+{
+    let mut p = put_half(out, at, lengths.len() as u16);
+    let mut i = 0;
+    let mut j = 0;
+    while i < lengths.len() {
+        let n = lengths[i];
+        let e = j + size_of(n);
+        p = put_word(out, p, bits32(n));
+        p = put_bytes(out, p, &joined[j..e]);
+        j = e;
+        i += 1;
+    }
+    p
 }

@@ -7,15 +7,16 @@ ghost use lib.IntN.{ℤ};
 ghost use lib.ListN.{length};
 ghost use Rattle.protocol.specs.Bytes.{bitsOf};
 ghost use Rattle.protocol.specs.Encode.{Encodes, errorFieldsGiven, gssKind, sslKind};
+ghost use Rattle.protocol.specs.Fields.{ended};
 ghost use Rattle.protocol.specs.Kinds as K;
 ghost use Rattle.pen.specs.Given.{isSome};
 ghost use Rattle.pen.specs.Writing.{Framed};
 ghost use Rattle.encode.specs.Given as G;
+ghost use Rattle.encode.specs.Writing.{WroteGiven};
 use crate::bare;
 use crate::one_text;
 use pen::bits32;
 use pen::errors::errors_given;
-use pen::errors::put_errors;
 use pen::no_zero;
 use pen::plus4;
 use pen::put_byte;
@@ -67,6 +68,24 @@ pub fn ready_for_query(status: u8, out: &mut [u8]) -> Encoded
     };
     write_ready_for_query(status, out);
     r
+}
+
+// The code of each and its string; then the zero byte that ends them.
+fn put_errors(out: &mut [u8], at: usize, codes: &[u8], lengths: &[u32], joined: &[u8]) -> usize
+    requires { ⌜ (at + 2 * length (now codes) + length (now joined) + 1 ≤ length (now out)) × (isSome (errorFieldsGiven (now codes) (now lengths) (now joined)) ≡ true) ⌝ }
+    ensures { λ r. ⌜ WroteGiven (ended K.errorField) (errorFieldsGiven (now (codes .entry)) (now (lengths .entry)) (now (joined .entry))) (now (out .entry)) at (2 * length (now (codes .entry)) + length (now (joined .entry)) + 1) (now (out .exit)) r ⌝ }
+{
+    let mut p = at;
+    let mut i = 0;
+    let mut j = 0;
+    while i < lengths.len() {
+        let e = j + lengths[i] as usize;
+        p = put_byte(out, p, codes[i]);
+        p = put_text(out, p, &joined[j..e]);
+        j = e;
+        i += 1;
+    }
+    put_byte(out, p, 0)
 }
 
 fn write_report(

@@ -1,11 +1,12 @@
 -- Each contract leaves one answer, and one final buffer.
-use Prim.Native.Nat.{ℕ}
-use mathlib.Core.Bool.{cond}
+use Prim.Native.Nat.{ℕ, _+_}
+use mathlib.Core.Bool.{Bool, true, false, cond, _&&_}
 use mathlib.Core.List.{List}
 use mathlib.Core.Option.{Option, some, none}
 use mathlib.Core.Path.{_≡_, refl, ap, sym, _∙_}
-use lib.Dec.{eqb}
+use lib.Dec.{eqb, leb}
 use lib.IntN.{ℤ}
+use lib.ListN.{length}
 use Rattle.protocol.specs.declared.Encoded.{Encoded}
 use Rattle.protocol.specs.declared.List.{List as ListSlot}
 use Rattle.protocol.specs.declared.Span.{Span}
@@ -44,7 +45,8 @@ use Rattle.listing.specs.Listing.{Lines, Fills, stepOf}
 use Rattle.listing.specs.declared.Filled.{Filled}
 use Rattle.listing.specs.declared.Step.the-variants as S
 use Rattle.listing.specs.declared.Step.{Step}
-use Rattle.pen.specs.Writing.{Wrote}
+use Rattle.pen.specs.Writing.{Put}
+use Rattle.pen.proofs.Puts.{has-room}
 use Rattle.reader.specs.Row.{ReadsRow, placesIn, startsOf, lengthsOf, over}
 use Rattle.reader.specs.declared.FrameReader.{FrameReader}
 use Rattle.reader.specs.declared.row.Row.{Row}
@@ -166,8 +168,16 @@ encodes-one {m} {k} {given} {out} p q =
     let same = p .answer ∙ sym (q .answer) in
     (same, p .output ∙ ap (λ (z : Encoded). writtenBy m k given z out) same ∙ sym (q .output))
 
-wrote-one : {d xs x y : List ℕ} {at n r s : ℕ} → Wrote d at xs n x r → Wrote d at xs n y s → (r ≡ s) × (x ≡ y)
-wrote-one p q = (p .place ∙ sym (q .place), p .bytes ∙ sym (q .bytes))
+put-one : {may : Bool} {d xs x y : List ℕ} {at n r s : ℕ} → Put may d at xs n x r → Put may d at xs n y s → (r ≡ s) × (x ≡ y)
+put-one {may} {d} {xs} {x} {y} {at} {n} {r} {s} p q = by (may && leb (at + n) (length d)) refl
+  where
+    by : (t : Bool) → may && leb (at + n) (length d) ≡ t → (r ≡ s) × (x ≡ y)
+    by true e =
+        let h = has-room may at n refl e in
+        let v = p .fits (h .0) (h .1) in
+        let w = q .fits (h .0) (h .1) in
+        (v .place ∙ sym (w .place), v .bytes ∙ sym (w .bytes))
+    by false e = (p .short e .1 ∙ sym (q .short e .1), p .short e .0 ∙ sym (q .short e .0))
 
 fills-one : {lines : Lines} {room x y : List ℕ} {r s : Filled} → Fills lines room x r → Fills lines room y s → (r ≡ s) × (x ≡ y)
 fills-one p q =
@@ -340,26 +350,23 @@ listing = record {
 pub pen : PenTight
 pen = record {
   «errors_given» = λ _ _ _ r s p q. p ∙ sym q;
-  «put_errors» = λ _ _ _ _ _ c e r s x y p q. wrote-one (p .field c e) (q .field c e);
-  «put_byte» = λ _ _ _ r s x y p q. wrote-one p q;
-  «put_half» = λ _ _ _ r s x y p q. wrote-one p q;
-  «put_word» = λ _ _ _ r s x y p q. wrote-one p q;
   bits8 = λ _ r s p q. p ∙ sym q;
   bits16 = λ _ r s p q. p ∙ sym q;
   bits32 = λ _ r s p q. p ∙ sym q;
-  «put_bytes» = λ _ _ _ r s x y p q. wrote-one p q;
-  «put_text» = λ _ _ _ r s x y p q. wrote-one p q;
   «no_zero» = λ _ r s p q. p ∙ sym q;
-  «put_words» = λ _ _ _ r s x y p q. wrote-one p q;
-  «put_halves» = λ _ _ _ r s x y p q. wrote-one p q;
-  «put_oids» = λ _ _ _ r s x y p q. wrote-one p q;
-  «put_formats» = λ _ _ _ r s x y p q. wrote-one p q;
   plus = λ _ _ r s p q. p ∙ sym q;
   plus4 = λ _ _ _ _ r s p q. p ∙ sym q;
   verdict = λ _ _ _ _ r s p q. p ∙ sym q;
-  «put_head» = λ _ _ _ r s x y p q. wrote-one p q;
+  «put_byte» = λ _ _ _ r s x y p q. put-one p q;
+  «put_half» = λ _ _ _ r s x y p q. put-one p q;
+  «put_word» = λ _ _ _ r s x y p q. put-one p q;
+  «put_bytes» = λ _ _ _ r s x y p q. put-one p q;
+  «put_text» = λ _ _ _ r s x y p q. put-one p q;
+  «put_oids» = λ _ _ _ r s x y p q. put-one p q;
+  «put_formats» = λ _ _ _ r s x y p q. put-one p q;
+  «put_head» = λ _ _ _ r s x y p q. put-one p q;
+  «size_of» = λ _ r s p q. p ∙ sym q;
   «values_given» = λ _ _ r s p q. p ∙ sym q;
-  «put_values» = λ _ _ _ _ c e r s x y p q. wrote-one (p .field c e) (q .field c e);
 }
 
 pub protocol : ProtocolTight

@@ -1,12 +1,12 @@
 -- From a verdict and what was written to an encoder's promise, for any mode, kind and content.
 use Prim.Native.Nat.{ℕ, _+_, _-_, _≤_, _<_, min}
-use mathlib.Core.Bool.{Bool, true, false, cond}
+use mathlib.Core.Bool.{Bool, true, false, cond, _&&_}
 use mathlib.Core.List.{List, _++_}
 use mathlib.Core.Option.{Option, some, none}
 use mathlib.Core.Path.{_≡_, refl, ap, _∙_, sym}
 use native.Mathlib.Omega.{arith}
 use borrow.Author.Tests.{ltb-true, ltb-false, lt-ltb, le-ltb}
-use lib.Dec.{ltb}
+use lib.Dec.{leb, ltb}
 use lib.ListN.{length, drop, length-append}
 use Rattle.protocol.specs.declared.Encoded.the-variants as N
 use Rattle.protocol.specs.declared.Encoded.{Encoded}
@@ -15,8 +15,9 @@ use Rattle.protocol.specs.Encode.{encodedBy, writtenBy, Encodes}
 use Rattle.protocol.specs.Kinds.{Envelope, typed, untyped, bare, Kind, Mode}
 use Rattle.protocol.specs.Refusals.{lengthAboveLimit, outputTooShort, notRepresentable}
 use Rattle.protocol.specs.WellFormed.{Contents, bodyBytes, lengthOf, header, bodyStart, frame, allAble}
-use Rattle.pen.specs.Writing.{write, Wrote, Framed, verdictOf}
+use Rattle.pen.specs.Writing.{write, Wrote, Put, Framed, verdictOf}
 use Rattle.pen.proofs.Laws.{_then_, front}
+use Rattle.pen.proofs.Puts.{Fits, same-size, headed}
 
 -- ---- lengths
 
@@ -57,6 +58,14 @@ framed {d} {mid} {left} {n} k c h b e =
     let f : length (bodyBytes k c) ≡ n - 5 = omega (arith, b .size) in
     let w : left ≡ write d 0 (frame typed k c) = rw f ((h then b) .bytes) in
     record { bytes = λ x is. w ∙ ap (λ (y : Contents k). write d 0 (frame typed k y)) (only is) }
+
+-- the same, by writers that look for their room
+pub framed-put : {d mid left : List ℕ} {n at next size : ℕ} (k : Kind) (c : Contents k)
+    → Put (leb 5 n && leb n 1048577) d 0 (header typed (k .tag) (n - 5)) 5 mid at → Fits mid at (bodyBytes k c) size left next → n ≡ 5 + size
+    → n ≤ length d → n ≤ 1048577 → Framed typed k (some c) d left
+framed-put k c head body e room small =
+    let h = headed head (omega arith) room small in
+    framed k c h (body (omega (arith, h .place, same-size h))) e
 
 -- in any envelope, head and body at once
 pub framed-whole : {d left : List ℕ} {e : Envelope} {n next : ℕ} (k : Kind) (c : Contents k) → Wrote d 0 (frame e k c) n left next → Framed e k (some c) d left

@@ -15,17 +15,12 @@ use Rattle.protocol.specs.Each.{ableEach, bytesOfEach}
 use Rattle.protocol.specs.Encode.{errorFieldsGiven}
 use Rattle.protocol.specs.Fields.{ItemContent, ended, able, bytes, atomAble, atomBytes, itemAble, itemBytes, itemsAble, itemsBytes, zeroFirst, noneEnds}
 use Rattle.protocol.specs.Kinds.{errorField}
-use Rattle.pen.specs.Given.{isSome, WroteGiven}
-use Rattle.pen.specs.Writing.{write, Wrote}
-use Rattle.pen.proofs.GivenLaws.{first, some-first, and-left}
-use Rattle.pen.proofs.Laws.{drop-more, drop-end, _then_}
-use Rattle.pen.proofs.Lists.{and-true, and-right}
+use Rattle.pen.specs.Given.{isSome}
+use Rattle.pen.proofs.GivenLaws.{first, some-first}
+use Rattle.pen.proofs.Laws.{drop-more, drop-end}
+use Rattle.pen.proofs.Lists.{and-true, and-false, and-left, and-right}
 
 -- ---- when there are fields
-
-and-false : (a : Bool) → a && false ≡ false
-and-false true = refl
-and-false false = refl
 
 next : (c n : ℕ) (cs ns bs : List ℕ) → isSome (errorFieldsGiven (c ∷ cs) (n ∷ ns) bs) ≡ leb n (length bs) && isSome (errorFieldsGiven cs ns (drop n bs))
 unfolding errorFieldsGiven
@@ -126,19 +121,6 @@ errors-are (c ∷ cs) (n ∷ ns) bs fs small e =
       codes = rw (f .is, byte, v .codes) refl;
       strings = λ rules. rw (f .is, v .strings rules, and-true (noZero (take n bs))) (sym (zero-append (take n bs) (drop n bs)) ∙ ap noZero (take-append-drop n bs));
     }
-
--- the fields, and then the zero byte
-pub errors-field : {d mid out : List ℕ} {p at next : ℕ} (cs ns bs : List ℕ) → ((i : ℕ) → getD cs i 0 < 256)
-    → mid ≡ write d p (errorsBytes cs ns bs) → at ≡ p + (2 * length cs + length bs) → Wrote mid at (0 ∷ []) 1 out next
-    → WroteGiven (ended errorField) (errorFieldsGiven cs ns bs) d p (2 * length cs + length bs + 1) out next
-unfolding bytes
-errors-field {d} {mid} {out} {p} {at} cs ns bs small e is-at w = record {
-  field = λ fs is.
-      let v = errors-are cs ns bs fs small is in
-      let u : Wrote d p (errorsBytes cs ns bs) (2 * length cs + length bs) mid at = record { bytes = e; size = v .size; place = is-at } in
-      rw (v .written) (u then w);
-  place = omega (arith, w .place);
-}
 
 -- ---- the field
 

@@ -31,10 +31,6 @@ some-first x true (some rest) = refl
 some-first x true none = refl
 some-first x false o = refl
 
-pub and-left : (a b : Bool) → a && b ≡ true → a ≡ true
-and-left true b e = refl
-and-left false b e = e
-
 -- ---- the whole body
 
 module _ {A : Type 0} (k : Kind) (body : A → Contents k) where

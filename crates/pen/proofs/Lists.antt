@@ -65,6 +65,14 @@ pub and-true : (a : Bool) → a && true ≡ a
 and-true true = refl
 and-true false = refl
 
+pub and-false : (a : Bool) → a && false ≡ false
+and-false true = refl
+and-false false = refl
+
+pub and-left : (a b : Bool) → a && b ≡ true → a ≡ true
+and-left true b e = refl
+and-left false b e = e
+
 pub and-right : (a : Bool) {b : Bool} → a && b ≡ true → b ≡ true
 and-right true e = e
 and-right false e = let z : _≡_ {A = ℕ} 0 1 = cc in absurd (omega arith)

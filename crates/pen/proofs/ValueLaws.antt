@@ -20,11 +20,10 @@ use Rattle.protocol.specs.Each.{ableEach, bytesOfEach}
 use Rattle.protocol.specs.Encode.{valuesGiven}
 use Rattle.protocol.specs.Fields.{ItemContent, able, bytes, atomAble, atomBytes, valueBytes, itemAble, itemBytes, itemsAble, itemsBytes}
 use Rattle.protocol.specs.Kinds.{nullable, values}
-use Rattle.pen.specs.Given.{isSome, sizeOf, WroteGiven}
-use Rattle.pen.specs.Writing.{write, Wrote}
-use Rattle.pen.proofs.GivenLaws.{first, some-first, and-left}
-use Rattle.pen.proofs.Laws.{drop-more, drop-end, _then_}
-use Rattle.pen.proofs.Lists.{and-true, and-right}
+use Rattle.pen.specs.Given.{isSome, sizeOf}
+use Rattle.pen.proofs.GivenLaws.{first, some-first}
+use Rattle.pen.proofs.Laws.{drop-more, drop-end}
+use Rattle.pen.proofs.Lists.{and-true, and-left, and-right}
 
 -- ---- the size of a value
 
@@ -145,18 +144,6 @@ values-are (negsuc zero ∷ zs) bs vs e =
       size = simp (length-append, length-word) (omega (arith, v .size));
     }
 values-are (negsuc (suc n) ∷ zs) bs vs e = let z : _≡_ {A = ℕ} 0 1 = cc in absurd (omega arith)
-
--- the count, and then the values
-pub values-field : {d mid out : List ℕ} {p at next : ℕ} (zs : List ℤ) (bs : List ℕ)
-    → Wrote d p (be 2 (length zs)) 2 mid at → out ≡ write mid at (valuesBytes zs bs) → next ≡ at + (4 * length zs + length bs)
-    → WroteGiven values (valuesGiven zs bs) d p (2 + (4 * length zs + length bs)) out next
-unfolding bytes
-values-field zs bs w e at = record {
-  field = λ vs is.
-      let v = values-are zs bs vs is in
-      rw (v .many, v .written) (w then record { bytes = e; size = v .size; place = at });
-  place = omega (arith, w .place);
-}
 
 -- ---- the field
 

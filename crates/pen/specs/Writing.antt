@@ -1,10 +1,10 @@
 -- What a writer does to the output, and the answer that comes before anything is written.
-use Prim.Native.Nat.{ℕ, _+_}
-use mathlib.Core.Bool.{Bool, cond}
+use Prim.Native.Nat.{ℕ, _+_, _≤_}
+use mathlib.Core.Bool.{Bool, true, false, cond, _&&_}
 use mathlib.Core.List.{List, [], _∷_}
 use mathlib.Core.Option.{Option, some}
 use mathlib.Core.Path.{_≡_}
-use lib.Dec.{ltb}
+use lib.Dec.{leb, ltb}
 use lib.ListN.{length, set}
 use Rattle.protocol.specs.declared.Encoded.the-variants as N
 use Rattle.protocol.specs.declared.Encoded.{Encoded}
@@ -22,6 +22,12 @@ pub record Wrote (d : List ℕ) (p : ℕ) (xs : List ℕ) (n : ℕ) (out : List 
   pub bytes : out ≡ write d p xs
   pub size : length xs ≡ n
   pub place : next ≡ p + n
+
+-- what a writer of the n bytes xs does: it writes them from p on where it may and there is room, else nothing. near follows, and spares callers the cases
+pub record Put (may : Bool) (d : List ℕ) (p : ℕ) (xs : List ℕ) (n : ℕ) (out : List ℕ) (next : ℕ) : Type 0 where
+  pub fits : may ≡ true → p + n ≤ length d → Wrote d p xs n out next
+  pub short : may && leb (p + n) (length d) ≡ false → (out ≡ d) × (next ≡ p)
+  pub near : next ≤ p + n
 
 -- left is d with the frame of what is given stored at its start
 pub record Framed (e : Envelope) (k : Kind) (given : Option (Contents k)) (d left : List ℕ) : Type 0 where

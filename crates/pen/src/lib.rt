@@ -1,27 +1,29 @@
-// Writers of the fields of a frame: each writes at a place of the output and answers the place after it. And what comes before any
-// write: sizes that cannot wrap, the scan for zero bytes, and the answer.
+// Writers of the fields of a frame: each writes at a place of the output and answers the place after it, or writes nothing and answers
+// the place that it was given. And what comes before any write: sizes that cannot wrap, the scan for zero bytes, and the answer.
 pub mod errors;
 pub mod values;
 
 ghost use Prim.Native.Nat.{_+_, _-_, _*_, _≤_, min};
+ghost use mathlib.Core.Bool.{_&&_, true};
 ghost use mathlib.Core.List.{[], _++_, _∷_};
 ghost use mathlib.Core.Path.{_≡_};
+ghost use lib.Dec.{leb};
 ghost use lib.ListN.{length};
 ghost use Rattle.protocol.specs.Bytes.{be, bitsOf, noZero};
 ghost use Rattle.protocol.specs.Encode.{items};
 ghost use Rattle.protocol.specs.Fields.{bytes, itemsBytes};
 ghost use Rattle.protocol.specs.Kinds.{format, formats, oid, oids, typed};
 ghost use Rattle.protocol.specs.WellFormed.{header};
-ghost use Rattle.pen.specs.Writing.{Wrote, verdictOf};
+ghost use Rattle.pen.specs.Writing.{Put, Wrote, verdictOf};
 use protocol::Encoded;
 use protocol::refusal::LENGTH_ABOVE_LIMIT;
 use protocol::refusal::NOT_REPRESENTABLE;
 use protocol::refusal::OUTPUT_TOO_SHORT;
 use scan::zero_from;
 
-// ---- numbers
+// ---- numbers. Writers named store_ ask for their room; the ones named put_, below, look for it
 
-pub fn put_byte(out: &mut [u8], at: usize, x: u8) -> usize
+fn store_byte(out: &mut [u8], at: usize, x: u8) -> usize
     requires { ⌜ at + 1 ≤ length (now out) ⌝ }
     ensures { λ r. ⌜ Wrote (now (out .entry)) at (x ∷ []) 1 (now (out .exit)) r ⌝ }
 {
@@ -29,22 +31,22 @@ pub fn put_byte(out: &mut [u8], at: usize, x: u8) -> usize
     at + 1
 }
 
-pub fn put_half(out: &mut [u8], at: usize, x: u16) -> usize
+fn store_half(out: &mut [u8], at: usize, x: u16) -> usize
     requires { ⌜ at + 2 ≤ length (now out) ⌝ }
     ensures { λ r. ⌜ Wrote (now (out .entry)) at (be 2 x) 2 (now (out .exit)) r ⌝ }
 {
-    let at = put_byte(out, at, (x / 256 % 256) as u8);
-    put_byte(out, at, (x % 256) as u8)
+    let at = store_byte(out, at, (x / 256 % 256) as u8);
+    store_byte(out, at, (x % 256) as u8)
 }
 
-pub fn put_word(out: &mut [u8], at: usize, x: u32) -> usize
+fn store_word(out: &mut [u8], at: usize, x: u32) -> usize
     requires { ⌜ at + 4 ≤ length (now out) ⌝ }
     ensures { λ r. ⌜ Wrote (now (out .entry)) at (be 4 x) 4 (now (out .exit)) r ⌝ }
 {
-    let at = put_byte(out, at, (x / 256 / 256 / 256 % 256) as u8);
-    let at = put_byte(out, at, (x / 256 / 256 % 256) as u8);
-    let at = put_byte(out, at, (x / 256 % 256) as u8);
-    put_byte(out, at, (x % 256) as u8)
+    let at = store_byte(out, at, (x / 256 / 256 / 256 % 256) as u8);
+    let at = store_byte(out, at, (x / 256 / 256 % 256) as u8);
+    let at = store_byte(out, at, (x / 256 % 256) as u8);
+    store_byte(out, at, (x % 256) as u8)
 }
 
 // The bits of a signed number, in two's complement.
@@ -80,7 +82,7 @@ pub fn bits32(x: i32) -> u32
 
 // ---- bytes and strings
 
-pub fn put_bytes(out: &mut [u8], at: usize, s: &[u8]) -> usize
+fn store_bytes(out: &mut [u8], at: usize, s: &[u8]) -> usize
     requires { ⌜ at + length (now s) ≤ length (now out) ⌝ }
     ensures { λ r. ⌜ Wrote (now (out .entry)) at (now (s .entry)) (length (now (s .entry))) (now (out .exit)) r ⌝ }
 {
@@ -95,12 +97,12 @@ pub fn put_bytes(out: &mut [u8], at: usize, s: &[u8]) -> usize
 }
 
 // A string, with its zero byte.
-pub fn put_text(out: &mut [u8], at: usize, s: &[u8]) -> usize
+fn store_text(out: &mut [u8], at: usize, s: &[u8]) -> usize
     requires { ⌜ at + length (now s) + 1 ≤ length (now out) ⌝ }
     ensures { λ r. ⌜ Wrote (now (out .entry)) at (now (s .entry) ++ 0 ∷ []) (length (now (s .entry)) + 1) (now (out .exit)) r ⌝ }
 {
-    let at = put_bytes(out, at, s);
-    put_byte(out, at, 0)
+    let at = store_bytes(out, at, s);
+    store_byte(out, at, 0)
 }
 
 pub fn no_zero(s: &[u8]) -> bool
@@ -112,47 +114,47 @@ pub fn no_zero(s: &[u8]) -> bool
 // ---- lists
 
 // Numbers of four bytes each, and of two.
-pub fn put_words(out: &mut [u8], at: usize, xs: &[u32]) -> usize
+fn store_words(out: &mut [u8], at: usize, xs: &[u32]) -> usize
     requires { ⌜ at + 4 * length (now xs) ≤ length (now out) ⌝ }
     ensures { λ r. ⌜ Wrote (now (out .entry)) at (itemsBytes oid (items (now (xs .entry)))) (4 * length (now (xs .entry))) (now (out .exit)) r ⌝ }
 {
     let mut i = 0;
     let mut p = at;
     while i < xs.len() {
-        p = put_word(out, p, xs[i]);
+        p = store_word(out, p, xs[i]);
         i += 1;
     }
     p
 }
 
-pub fn put_halves(out: &mut [u8], at: usize, xs: &[i16]) -> usize
+fn store_halves(out: &mut [u8], at: usize, xs: &[i16]) -> usize
     requires { ⌜ at + 2 * length (now xs) ≤ length (now out) ⌝ }
     ensures { λ r. ⌜ Wrote (now (out .entry)) at (itemsBytes format (items (now (xs .entry)))) (2 * length (now (xs .entry))) (now (out .exit)) r ⌝ }
 {
     let mut i = 0;
     let mut p = at;
     while i < xs.len() {
-        p = put_half(out, p, bits16(xs[i]));
+        p = store_half(out, p, bits16(xs[i]));
         i += 1;
     }
     p
 }
 
 // The same, with their count before them.
-pub fn put_oids(out: &mut [u8], at: usize, xs: &[u32]) -> usize
+fn store_oids(out: &mut [u8], at: usize, xs: &[u32]) -> usize
     requires { ⌜ (at + 4 * length (now xs) + 2 ≤ length (now out)) × (length (now xs) ≤ 32767) ⌝ }
     ensures { λ r. ⌜ Wrote (now (out .entry)) at (bytes oids (items (now (xs .entry)))) (2 + 4 * length (now (xs .entry))) (now (out .exit)) r ⌝ }
 {
-    let first = put_half(out, at, xs.len() as u16);
-    put_words(out, first, xs)
+    let first = store_half(out, at, xs.len() as u16);
+    store_words(out, first, xs)
 }
 
-pub fn put_formats(out: &mut [u8], at: usize, xs: &[i16]) -> usize
+fn store_formats(out: &mut [u8], at: usize, xs: &[i16]) -> usize
     requires { ⌜ (at + 2 * length (now xs) + 2 ≤ length (now out)) × (length (now xs) ≤ 32767) ⌝ }
     ensures { λ r. ⌜ Wrote (now (out .entry)) at (bytes formats (items (now (xs .entry)))) (2 + 2 * length (now (xs .entry))) (now (out .exit)) r ⌝ }
 {
-    let at = put_half(out, at, xs.len() as u16);
-    put_halves(out, at, xs)
+    let at = store_half(out, at, xs.len() as u16);
+    store_halves(out, at, xs)
 }
 
 // ---- sizes, the answer, and the head of a frame
@@ -191,10 +193,96 @@ pub fn verdict(able: bool, limit: u32, size: usize, room: usize) -> Encoded
 }
 
 // The type byte and the length word of a frame of n bytes, at the output's start.
-pub fn put_head(out: &mut [u8], type_byte: u8, n: usize) -> usize
-    requires { ⌜ (5 ≤ n) × (n ≤ length (now out)) × (n ≤ 1048577) ⌝ }
+fn store_head(out: &mut [u8], type_byte: u8, n: usize) -> usize
+    requires { ⌜ (5 ≤ length (now out)) × (5 ≤ n) × (n ≤ 1048577) ⌝ }
     ensures { λ r. ⌜ Wrote (now (out .entry)) 0 (header typed «type_byte» (n - 5)) 5 (now (out .exit)) r ⌝ }
 {
-    let at = put_byte(out, 0, type_byte);
-    put_word(out, at, (n - 1) as u32)
+    let at = store_byte(out, 0, type_byte);
+    store_word(out, at, (n - 1) as u32)
+}
+
+// ---- the writers, for any place: each writes all or nothing
+
+// Whether something that may be written has room: n bytes of len, from at on.
+fn room(may: bool, len: usize, at: usize, n: usize) -> bool
+    ensures { λ r. ⌜ r ≡ may && leb (at + n) len ⌝ }
+{
+    if len < at {
+        return false;
+    }
+    may & (n <= len - at)
+}
+
+pub fn put_byte(out: &mut [u8], at: usize, x: u8) -> usize
+    ensures { λ r. ⌜ Put true (now (out .entry)) at (x ∷ []) 1 (now (out .exit)) r ⌝ }
+{
+    if room(true, out.len(), at, 1) {
+        return store_byte(out, at, x);
+    }
+    at
+}
+
+pub fn put_half(out: &mut [u8], at: usize, x: u16) -> usize
+    ensures { λ r. ⌜ Put true (now (out .entry)) at (be 2 x) 2 (now (out .exit)) r ⌝ }
+{
+    if room(true, out.len(), at, 2) {
+        return store_half(out, at, x);
+    }
+    at
+}
+
+pub fn put_word(out: &mut [u8], at: usize, x: u32) -> usize
+    ensures { λ r. ⌜ Put true (now (out .entry)) at (be 4 x) 4 (now (out .exit)) r ⌝ }
+{
+    if room(true, out.len(), at, 4) {
+        return store_word(out, at, x);
+    }
+    at
+}
+
+pub fn put_bytes(out: &mut [u8], at: usize, s: &[u8]) -> usize
+    ensures { λ r. ⌜ Put true (now (out .entry)) at (now (s .entry)) (length (now (s .entry))) (now (out .exit)) r ⌝ }
+{
+    if room(true, out.len(), at, s.len()) {
+        return store_bytes(out, at, s);
+    }
+    at
+}
+
+pub fn put_text(out: &mut [u8], at: usize, s: &[u8]) -> usize
+    ensures { λ r. ⌜ Put true (now (out .entry)) at (now (s .entry) ++ 0 ∷ []) (length (now (s .entry)) + 1) (now (out .exit)) r ⌝ }
+{
+    if room(true, out.len(), at, s.len() + 1) {
+        return store_text(out, at, s);
+    }
+    at
+}
+
+// A list of more than 32767 has no count of two bytes: nothing is written.
+pub fn put_oids(out: &mut [u8], at: usize, xs: &[u32]) -> usize
+    ensures { λ r. ⌜ Put (leb (length (now (xs .entry))) 32767) (now (out .entry)) at (bytes oids (items (now (xs .entry)))) (2 + 4 * length (now (xs .entry))) (now (out .exit)) r ⌝ }
+{
+    if room(xs.len() <= 32767, out.len(), at, 2 + 4 * xs.len()) {
+        return store_oids(out, at, xs);
+    }
+    at
+}
+
+pub fn put_formats(out: &mut [u8], at: usize, xs: &[i16]) -> usize
+    ensures { λ r. ⌜ Put (leb (length (now (xs .entry))) 32767) (now (out .entry)) at (bytes formats (items (now (xs .entry)))) (2 + 2 * length (now (xs .entry))) (now (out .exit)) r ⌝ }
+{
+    if room(xs.len() <= 32767, out.len(), at, 2 + 2 * xs.len()) {
+        return store_formats(out, at, xs);
+    }
+    at
+}
+
+// No frame is below 5 bytes or above the largest limit.
+pub fn put_head(out: &mut [u8], type_byte: u8, n: usize) -> usize
+    ensures { λ r. ⌜ Put (leb 5 n && leb n 1048577) (now (out .entry)) 0 (header typed «type_byte» (n - 5)) 5 (now (out .exit)) r ⌝ }
+{
+    if room((5 <= n) & (n <= 1048577), out.len(), 0, 5) {
+        return store_head(out, type_byte, n);
+    }
+    0
 }

@@ -8,7 +8,7 @@ use lib.Dec.{leb, ltb}
 use Rattle.protocol.specs.declared.Encoded.the-variants as N
 use Rattle.pen.specs.Writing.{verdictOf}
 use Rattle.pen.proofs.Encoding.{room-by}
-use Rattle.pen.proofs.GivenLaws.{and-left}
+use Rattle.pen.proofs.Lists.{and-left}
 use Rattle.rows.specs.declared.Pen.{Pen}
 use Rattle.rows.specs.Passes.{answered}
 

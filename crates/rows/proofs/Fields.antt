@@ -14,9 +14,8 @@ use Rattle.protocol.specs.Encode.{rowFieldGiven}
 use Rattle.protocol.specs.Fields.{atomBytes, itemBytes}
 use Rattle.protocol.specs.Kinds.{rowField}
 use Rattle.pen.specs.Writing.{write, Wrote}
-use Rattle.pen.proofs.GivenLaws.{and-left}
 use Rattle.pen.proofs.Laws.{_then_}
-use Rattle.pen.proofs.Lists.{and-right}
+use Rattle.pen.proofs.Lists.{and-left, and-right}
 use Rattle.rows.specs.declared.Pen.{Pen}
 use Rattle.rows.specs.Passes.{named, numbers, after, stepPen, stepOut}
 

@@ -16,9 +16,8 @@ use Rattle.protocol.specs.Encode.{oneBefore, rowFieldGiven, rowFieldsGiven}
 use Rattle.protocol.specs.Fields.{ItemContent, atomBytes, atomAble, itemBytes, itemAble, itemsBytes, itemsAble}
 use Rattle.protocol.specs.Kinds.{rowField}
 use Rattle.pen.specs.Writing.{write}
-use Rattle.pen.proofs.GivenLaws.{and-left}
 use Rattle.pen.proofs.Laws.{write-append}
-use Rattle.pen.proofs.Lists.{and-true, and-right}
+use Rattle.pen.proofs.Lists.{and-true, and-left, and-right}
 use Rattle.rows.specs.declared.Pen.{Pen}
 use Rattle.rows.specs.Passes.{named, after, stepPen, stepOut, allPen, allOut}
 use Rattle.rows.proofs.Fields.{part-length, inside}

@@ -1,10 +1,11 @@
 -- `encode::write_bare` meets its contract.
 use mathlib.Core.Path.{refl}
+use native.Mathlib.Omega.{arith}
 use borrow.Author.Needs.{needs}
 use Rattle.protocol.specs.Each.{bytesOfEach}
 use Rattle.protocol.specs.WellFormed.{bodyBytes}
-use Rattle.pen.proofs.Encoding.{framed}
-use Rattle.pen.proofs.Laws.{nothing}
+use Rattle.pen.proofs.Encoding.{framed-put}
+use Rattle.pen.proofs.Puts.{none}
 use Rattle.encode.specs.Given.{fieldless}
 use Rattle.encode.proofs.write_bare.Statement.{statement}
 use Rattle.encode.proofs.write_bare.Tie as tie
@@ -13,7 +14,7 @@ returns : tie.Need-returns
 unfolding bodyBytes bytesOfEach
 returns c =
     let h = c .before .before in
-    framed (fieldless _) tt (h .put-head .ensures) nothing refl
+    framed-put (fieldless _) tt (h .put-head .ensures) none refl (h .before .before .before .pre) (omega arith)
 
 pub write-bare-spec : {M : Type 1} → statement M
 write-bare-spec = tie.close (tie.spec (λ c κs. search needs) (λ c. search needs) returns)

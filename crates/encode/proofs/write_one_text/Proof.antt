@@ -1,12 +1,13 @@
 -- `encode::write_one_text` meets its contract.
+use mathlib.Core.Path.{refl}
 use native.Mathlib.Omega.{arith}
 use borrow.Author.Needs.{needs}
 use denote.Ref.{now}
 use Rattle.protocol.specs.Each.{bytesOfEach}
 use Rattle.protocol.specs.Fields.{bytes, atomBytes}
 use Rattle.protocol.specs.WellFormed.{bodyBytes}
-use Rattle.pen.proofs.Encoding.{framed}
-use Rattle.pen.proofs.Laws.{_then_, nothing}
+use Rattle.pen.proofs.Encoding.{framed-put}
+use Rattle.pen.proofs.Puts.{_and_, none}
 use Rattle.encode.specs.Given as G
 use Rattle.encode.proofs.write_one_text.Statement.{statement}
 use Rattle.encode.proofs.write_one_text.Tie as tie
@@ -17,9 +18,9 @@ returns c =
     let c2 = c .before .before in
     let c1 = c2 .before .before .before .before in
     let s = c1 .before .before .before .before in
-    framed (G.texted _) (now (s .args .s), tt) (c1 .put-head .ensures)
-    (c2 .put-text .ensures then nothing)
-    (omega (arith, s .pre))
+    framed-put (G.texted _) (now (s .args .s), tt) (c1 .put-head .ensures)
+    (c2 .put-text .ensures .fits refl and none)
+    (omega (arith, s .pre)) (s .pre .1) (omega (arith, s .pre))
 
 pub write-one-text-spec : {M : Type 1} → statement M
 write-one-text-spec = tie.close (tie.spec (λ c κs. search needs) (λ c κs. search needs) (λ c. search needs) returns)

@@ -38,7 +38,7 @@ returns-2 c =
     let b = c .before .before in
     let e = b .before .before .before in
     let q = sym (e .before .before .opening-of .ensures) ∙ e .enum-told .given .1 in
-    rw q (record { wrote = b .put-bytes .ensures; left = refl; short = omega (arith, b .put-bytes .ensures .place) })
+    rw q (record { wrote = b .put-bytes .ensures .fits refl (omega arith); left = refl; short = omega (arith, b .put-bytes .ensures .near) })
 
 returns-3 : tie.Need-returns-3
 unfolding lineFrom
@@ -46,7 +46,7 @@ returns-3 c =
     let b = c .before .before in
     let e = b .before .before .before in
     let q = sym (e .before .before .opening-of .ensures) ∙ e .enum-told2 .given .1 in
-    rw q (record { wrote = b .put-bytes2 .ensures; left = refl; short = omega (arith, b .put-bytes2 .ensures .place) })
+    rw q (record { wrote = b .put-bytes2 .ensures .fits refl (omega arith); left = refl; short = omega (arith, b .put-bytes2 .ensures .near) })
 
 pub put-from-spec : {M : Type 1} → statement M
 put-from-spec =

@@ -10,7 +10,7 @@ returns : tie.Need-returns
 unfolding lineOf
 returns c =
     let b = c .before .before in
-    rw (b .before .before .before .enum-told .given .1) (record { wrote = b .put-bytes .ensures; left = refl; short = omega (arith, b .put-bytes .ensures .place) })
+    rw (b .before .before .before .enum-told .given .1) (record { wrote = b .put-bytes .ensures .fits refl (omega arith); left = refl; short = omega (arith, b .put-bytes .ensures .near) })
 
 returns-2 : tie.Need-returns-2
 unfolding lineOf

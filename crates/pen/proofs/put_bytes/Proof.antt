@@ -1,50 +1,25 @@
 -- `pen::put_bytes` meets its contract.
-use Prim.Native.Nat.{_+_, _-_, _≤_}
-use mathlib.Core.Path.{_≡_, refl, ap, _∙_, sym}
+use mathlib.Core.Bool.{true}
 use native.Mathlib.Omega.{arith}
 use borrow.Author.Needs.{needs}
-use lib.ListN.{length, drop}
-use Rattle.pen.specs.Writing.{write}
-use Rattle.pen.proofs.Laws.{drop-more, drop-end}
+use lib.ListN.{length}
+use Rattle.pen.proofs.Puts.{has-room, put, kept}
 use Rattle.pen.proofs.put_bytes.Statement.{statement}
 use Rattle.pen.proofs.put_bytes.Tie as tie
 
--- what is left to write
-abbrev Inv-loop : tie.InvT-loop
-Inv-loop out₀ at s i₀ p₀ out i p =
-    (i ≤ length s) × (p ≡ at + i) × (length out ≡ length out₀) × (write out p (drop i s) ≡ write out₀ at s)
+requires : tie.Need-store-bytes-requires
+requires c κs =
+    let a = c .before .before .before .before .before .args in
+    omega (arith, has-room true (a .at) (length (a .s .now)) (c .before .before .room .ensures) (c .before .if1 .taken) .1)
 
-abbrev μ-loop : tie.MeasureT-loop
-μ-loop out₀ at s i₀ p₀ out i p = length s - i
-
-loop-again : tie.Need-loop-again Inv-loop μ-loop
-loop-again c =
-    let q = c .before .before .loop in
-    let s = c .before .before .before .args .s .now in
-    (search needs, search needs, search needs, ap (write (q .out) (q .p)) (sym (drop-more s (q .i) 0 (omega arith))) ∙ q .inv .3)
-
-returns : tie.Need-returns Inv-loop μ-loop
+returns : tie.Need-returns
 returns c =
-    let q = c .before .loop in
-    let a = c .before .before .args in
-    record {
-      bytes = ap (write (q .out) (q .p)) (sym (drop-end (a .s .now) (q .i) (c .loop-test .left))) ∙ q .inv .3;
-      size = refl;
-      place = omega arith;
-    }
+    let s = c .before .before in
+    let t = s .before .before in
+    put (t .before .room .ensures) (t .if1 .taken) (s .store-bytes .ensures)
+
+returns-2 : tie.Need-returns-2
+returns-2 c = kept (c .before .room .ensures) (c .if1 .left)
 
 pub put-bytes-spec : {M : Type 1} → statement M
-put-bytes-spec =
-    tie.close
-    (tie.spec
-    Inv-loop
-    μ-loop
-    (λ c. search needs)
-    (λ c. search needs)
-    (λ c. search needs)
-    (λ c. search needs)
-    (λ c. search needs)
-    (λ c. search needs)
-    loop-again
-    (λ c. search needs)
-    returns)
+put-bytes-spec = tie.close (tie.spec (λ c κs. search needs) requires (λ c. search needs) returns returns-2)

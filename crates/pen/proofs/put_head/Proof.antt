@@ -1,22 +1,27 @@
 -- `pen::put_head` meets its contract.
-use Prim.Native.Nat.{_+_, _-_}
-use mathlib.Core.Path.{_≡_}
-use native.Mathlib.Omega.{arith}
+use mathlib.Core.Bool.{_&&_}
 use borrow.Author.Needs.{needs}
-use Rattle.protocol.specs.WellFormed.{header}
-use Rattle.pen.proofs.Laws.{_then_}
+use borrow.Author.Tests.{leb-true}
+use Rattle.pen.proofs.Lists.{and-left, and-right}
+use lib.Dec.{leb}
+use Rattle.pen.proofs.Puts.{has-room, put, kept}
 use Rattle.pen.proofs.put_head.Statement.{statement}
 use Rattle.pen.proofs.put_head.Tie as tie
 
+requires : tie.Need-store-head-requires
+requires c κs =
+    let a = c .before .before .before .before .args in
+    let h = has-room (leb 5 (a .n) && leb (a .n) 1048577) 0 5 (c .before .before .room .ensures) (c .before .if1 .taken) in
+    (h .1, leb-true _ _ (and-left _ _ (h .0)), leb-true _ _ (and-right (leb 5 (a .n)) (h .0)))
+
 returns : tie.Need-returns
-unfolding header
 returns c =
-    let b = c .before .before in
-    let a = b .before .before .before .before in
-    let n = a .before .before .before .args .n in
-    let e : 4 + (n - 5) ≡ n - 1 = omega arith in
-    rw e (a .put-byte .ensures then b .put-word .ensures)
+    let s = c .before .before in
+    let t = s .before .before in
+    put (t .before .room .ensures) (t .if1 .taken) (s .store-head .ensures)
+
+returns-2 : tie.Need-returns-2
+returns-2 c = kept (c .before .room .ensures) (c .if1 .left)
 
 pub put-head-spec : {M : Type 1} → statement M
-put-head-spec =
-    tie.close (tie.spec (λ c κs. search needs) (λ c. search needs) (λ c. search needs) (λ c κs. search needs) (λ c. search needs) returns)
+put-head-spec = tie.close (tie.spec (λ c κs. search needs) requires (λ c. search needs) returns returns-2)

@@ -1,30 +1,24 @@
 -- `pen::put_word` meets its contract.
+use mathlib.Core.Bool.{true}
+use native.Mathlib.Omega.{arith}
 use borrow.Author.Needs.{needs}
-use Rattle.protocol.specs.Bytes.{be}
-use Rattle.pen.proofs.Laws.{_then_}
+use Rattle.pen.proofs.Puts.{has-room, put, kept}
 use Rattle.pen.proofs.put_word.Statement.{statement}
 use Rattle.pen.proofs.put_word.Tie as tie
 
+requires : tie.Need-store-word-requires
+requires c κs =
+    let a = c .before .before .before .before .args in
+    omega (arith, has-room true (a .at) 4 (c .before .before .room .ensures) (c .before .if1 .taken) .1)
+
 returns : tie.Need-returns
-unfolding be
 returns c =
-    let c4 = c .before .before in
-    let c3 = c4 .before .before .before .before in
-    let c2 = c3 .before .before .before .before in
-    let c1 = c2 .before .before .before .before in
-    c1 .put-byte .ensures then c2 .put-byte2 .ensures then c3 .put-byte3 .ensures then c4 .put-byte4 .ensures
+    let s = c .before .before in
+    let t = s .before .before in
+    put (t .before .room .ensures) (t .if1 .taken) (s .store-word .ensures)
+
+returns-2 : tie.Need-returns-2
+returns-2 c = kept (c .before .room .ensures) (c .if1 .left)
 
 pub put-word-spec : {M : Type 1} → statement M
-put-word-spec =
-    tie.close
-    (tie.spec
-    (λ c. search needs)
-    (λ c κs. search needs)
-    (λ c. search needs)
-    (λ c κs. search needs)
-    (λ c. search needs)
-    (λ c κs. search needs)
-    (λ c. search needs)
-    (λ c κs. search needs)
-    (λ c. search needs)
-    returns)
+put-word-spec = tie.close (tie.spec (λ c κs. search needs) requires (λ c. search needs) returns returns-2)

@@ -7,6 +7,7 @@ use lib.ListN.{length}
 use Rattle.protocol.specs.Bytes.{be}
 use Rattle.protocol.specs.Kinds.{rowDescription}
 use Rattle.pen.specs.Writing.{write}
+use Rattle.pen.proofs.Puts.{headed}
 use Rattle.rows.specs.Passes.{answered, begun}
 use Rattle.rows.proofs.Answers.{roomy-of}
 use Rattle.rows.proofs.begin.Statement.{statement}
@@ -20,13 +21,6 @@ returns : tie.Need-returns
 unfolding begun
 returns c = (says (c .before .before), rw (c .enum-told .given .1) refl)
 
-put-head-requires : tie.Need-put-head-requires
-put-head-requires c κs =
-    let v = c .before .before .before .before in
-    let a = v .before .before .before .before .args in
-    let h = roomy-of (a .measured) (a .count) (length (now (a .out))) _ (sym (says v) ∙ c .before .before .r .given .1) in
-    (omega (arith, h .whole), h .fits, h .small)
-
 cast-put-half : tie.Need-cast-put-half
 cast-put-half c =
     let r = c .before .before .before .before .before .before in
@@ -35,24 +29,18 @@ cast-put-half c =
     let h = roomy-of (a .measured) (a .count) (length (now (a .out))) _ (sym (says v) ∙ r .r .given .1) in
     omega (arith, h .few)
 
-put-half-requires : tie.Need-put-half-requires
-put-half-requires c κs =
-    let p = c .before .before .before in
+returns-2 : tie.Need-returns-2
+unfolding begun rowDescription
+returns-2 c =
+    let k = c .before .before in
+    let p = k .before .before .before .before in
     let r = p .before .before .before in
     let v = r .before .before in
     let a = v .before .before .before .before .args in
     let h = roomy-of (a .measured) (a .count) (length (now (a .out))) _ (sym (says v) ∙ r .r .given .1) in
-    omega (arith, h .whole, h .fits, p .put-head .ensures .place)
-
-returns-2 : tie.Need-returns-2
-unfolding begun rowDescription
-returns-2 c =
-    let h = c .before .before in
-    let p = h .before .before .before .before in
-    let r = p .before .before .before in
-    let v = r .before .before in
-    let e = p .put-head .ensures in
-    (sym (r .r .given .1) ∙ says v, h .put-half .ensures .bytes ∙ (λ j. write (e .bytes j) (e .place j) (be 2 (v .before .before .before .before .args .count))))
+    let e = headed (p .put-head .ensures) (omega (arith, h .whole)) (h .fits) (h .small) in
+    let w = k .put-half .ensures .fits refl (omega (arith, h .whole, h .fits, e .place)) in
+    (sym (r .r .given .1) ∙ says v, w .bytes ∙ (λ j. write (e .bytes j) (e .place j) (be 2 (a .count))))
 
 pub begin-spec : {M : Type 1} → statement M
 begin-spec =
@@ -63,8 +51,8 @@ begin-spec =
     (λ c. search needs)
     (λ c. search needs)
     returns
-    put-head-requires
+    (λ c κs. search needs)
     cast-put-half
-    put-half-requires
+    (λ c κs. search needs)
     (λ c. search needs)
     returns-2)

@@ -1,6 +1,8 @@
 -- `rows::put_numbers` meets its contract.
+use mathlib.Core.Path.{refl}
+use native.Mathlib.Omega.{arith}
 use borrow.Author.Needs.{needs}
-use Rattle.pen.proofs.Laws.{_then_, nothing}
+use Rattle.pen.proofs.Puts.{_and_, none}
 use Rattle.rows.proofs.put_numbers.Statement.{statement}
 use Rattle.rows.proofs.put_numbers.Tie as tie
 
@@ -12,7 +14,9 @@ returns c =
     let c3 = c4 .before .before .before .before in
     let c2 = c3 .before .before .before .before in
     let c1 = c2 .before .before .before .before in
-    c1 .put-word .ensures then c2 .put-half .ensures then c3 .put-word2 .ensures then c4 .put-half2 .ensures then c5 .put-word3 .ensures then c6 .put-half3 .ensures then nothing
+    (c1 .put-word .ensures .fits refl and c2 .put-half .ensures .fits refl and c3 .put-word2 .ensures .fits refl and c4 .put-half2 .ensures .fits refl
+    and c5 .put-word3 .ensures .fits refl and c6 .put-half3 .ensures .fits refl and none)
+    (omega arith)
 
 pub put-numbers-spec : {M : Type 1} → statement M
 put-numbers-spec =

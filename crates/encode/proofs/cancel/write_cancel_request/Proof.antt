@@ -1,4 +1,6 @@
 -- `encode::cancel::write_cancel_request` meets its contract.
+use mathlib.Core.Path.{refl}
+use native.Mathlib.Omega.{arith}
 use borrow.Author.Needs.{needs}
 use Rattle.protocol.specs.Bytes.{be}
 use Rattle.protocol.specs.Each.{bytesOfEach}
@@ -6,7 +8,7 @@ use Rattle.protocol.specs.Fields.{bytes, atomBytes}
 use Rattle.protocol.specs.Kinds as K
 use Rattle.protocol.specs.WellFormed.{bodyBytes, header, frame}
 use Rattle.pen.proofs.Encoding.{framed-whole}
-use Rattle.pen.proofs.Laws.{_then_, nothing}
+use Rattle.pen.proofs.Puts.{_and_, none}
 use Rattle.encode.specs.Given as G
 use Rattle.encode.proofs.cancel.write_cancel_request.Statement.{statement}
 use Rattle.encode.proofs.cancel.write_cancel_request.Tie as tie
@@ -19,8 +21,9 @@ returns c = λ y z ey ez.
     let c2 = c3 .before .before .before .before in
     let c1 = c2 .before .before .before .before in
     framed-whole K.cancelRequest (y, (z, tt))
-    ((c1 .put-word .ensures then c2 .put-word2 .ensures)
-    then rw ey at (c3 .put-word3 .ensures) then rw ez at (c4 .put-word4 .ensures) then nothing)
+    (((c1 .put-word .ensures .fits refl and c2 .put-word2 .ensures .fits refl)
+    and rw ey at (c3 .put-word3 .ensures .fits refl) and rw ez at (c4 .put-word4 .ensures .fits refl) and none)
+    (omega arith))
 
 pub write-cancel-request-spec : {M : Type 1} → statement M
 write-cancel-request-spec =

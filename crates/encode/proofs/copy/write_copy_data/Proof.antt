@@ -1,4 +1,5 @@
 -- `encode::copy::write_copy_data` meets its contract.
+use mathlib.Core.Path.{refl}
 use native.Mathlib.Omega.{arith}
 use borrow.Author.Needs.{needs}
 use denote.Ref.{now}
@@ -6,8 +7,8 @@ use Rattle.protocol.specs.Each.{bytesOfEach}
 use Rattle.protocol.specs.Fields.{bytes, atomBytes}
 use Rattle.protocol.specs.Kinds as K
 use Rattle.protocol.specs.WellFormed.{bodyBytes}
-use Rattle.pen.proofs.Encoding.{framed}
-use Rattle.pen.proofs.Laws.{_then_, nothing}
+use Rattle.pen.proofs.Encoding.{framed-put}
+use Rattle.pen.proofs.Puts.{_and_, none}
 use Rattle.encode.specs.Given as G
 use Rattle.encode.proofs.copy.write_copy_data.Statement.{statement}
 use Rattle.encode.proofs.copy.write_copy_data.Tie as tie
@@ -18,9 +19,9 @@ returns c =
     let c2 = c .before .before in
     let c1 = c2 .before .before .before .before in
     let s = c1 .before .before .before .before in
-    framed K.copyData (now (s .args .data), tt) (c1 .put-head .ensures)
-    (c2 .put-bytes .ensures then nothing)
-    (omega (arith, s .pre))
+    framed-put K.copyData (now (s .args .data), tt) (c1 .put-head .ensures)
+    (c2 .put-bytes .ensures .fits refl and none)
+    (omega (arith, s .pre)) (s .pre .1) (s .pre .2)
 
 pub write-copy-data-spec : {M : Type 1} → statement M
 write-copy-data-spec = tie.close (tie.spec (λ c κs. search needs) (λ c κs. search needs) (λ c. search needs) returns)

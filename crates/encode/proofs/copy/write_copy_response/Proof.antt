@@ -1,13 +1,16 @@
 -- `encode::copy::write_copy_response` meets its contract.
+use mathlib.Core.Path.{refl}
 use native.Mathlib.Omega.{arith}
 use borrow.Author.Needs.{needs}
+use borrow.Author.Tests.{le-leb}
 use denote.Ref.{now}
+use lib.ListN.{length}
 use Rattle.protocol.specs.Each.{bytesOfEach}
 use Rattle.protocol.specs.Encode.{items}
 use Rattle.protocol.specs.Fields.{bytes, atomBytes}
 use Rattle.protocol.specs.WellFormed.{bodyBytes}
-use Rattle.pen.proofs.Encoding.{framed}
-use Rattle.pen.proofs.Laws.{_then_, nothing}
+use Rattle.pen.proofs.Encoding.{framed-put}
+use Rattle.pen.proofs.Puts.{_and_, none}
 use Rattle.pen.proofs.Signs.{byte-of}
 use Rattle.encode.specs.Given as G
 use Rattle.encode.proofs.copy.write_copy_response.Statement.{statement}
@@ -20,9 +23,9 @@ returns c = λ z e.
     let c2 = c3 .before .before .before .before in
     let c1 = c2 .before .before .before .before in
     let s = c1 .before .before .before in
-    framed (G.formatted _) (z, (items (now (s .args .column-formats)), tt)) (c1 .put-head .ensures)
-    (byte-of z (s .fits .format .fits) e (c2 .put-byte .ensures) then c3 .put-formats .ensures then nothing)
-    (omega (arith, s .pre))
+    framed-put (G.formatted _) (z, (items (now (s .args .column-formats)), tt)) (c1 .put-head .ensures)
+    ((λ h. byte-of z (s .fits .format .fits) e (c2 .put-byte .ensures .fits refl h)) and c3 .put-formats .ensures .fits (le-leb (length (now (s .args .column-formats))) 32767 (omega (arith, s .pre))) and none)
+    (omega (arith, s .pre)) (s .pre .1) (omega (arith, s .pre))
 
 pub write-copy-response-spec : {M : Type 1} → statement M
 write-copy-response-spec = tie.close (tie.spec (λ c κs. search needs) (λ c κs. search needs) (λ c κs. search needs) (λ c. search needs) returns)

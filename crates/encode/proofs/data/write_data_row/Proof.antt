@@ -6,9 +6,9 @@ use Rattle.protocol.specs.Each.{bytesOfEach}
 use Rattle.protocol.specs.Encode.{valuesGiven}
 use Rattle.protocol.specs.Kinds as K
 use Rattle.protocol.specs.WellFormed.{bodyBytes}
-use Rattle.pen.proofs.Encoding.{framed}
+use Rattle.pen.proofs.Encoding.{framed-put}
 use Rattle.pen.proofs.GivenLaws.{framed-given}
-use Rattle.pen.proofs.Laws.{_then_, nothing}
+use Rattle.pen.proofs.Puts.{_and_, none}
 use Rattle.encode.specs.Given as G
 use Rattle.encode.proofs.data.write_data_row.Statement.{statement}
 use Rattle.encode.proofs.data.write_data_row.Tie as tie
@@ -20,7 +20,7 @@ returns c =
     let c1 = c2 .before .before .before .before in
     let s = c1 .before .before .before .before in
     framed-given K.dataRow (λ vs. (vs, tt)) (valuesGiven (now (s .args .lengths)) (now (s .args .joined)))
-    (λ vs is. framed K.dataRow (vs, tt) (c1 .put-head .ensures) (c2 .put-values .ensures .field vs is then nothing) (omega (arith, s .pre)))
+    (λ vs is. framed-put K.dataRow (vs, tt) (c1 .put-head .ensures) ((λ _. c2 .put-values .ensures .field vs is) and none) (omega (arith, s .pre)) (s .pre .1) (s .pre .2))
 
 pub write-data-row-spec : {M : Type 1} → statement M
 write-data-row-spec = tie.close (tie.spec (λ c κs. search needs) (λ c κs. search needs) (λ c. search needs) returns)

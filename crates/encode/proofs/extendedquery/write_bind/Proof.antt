@@ -1,15 +1,17 @@
 -- `encode::extendedquery::write_bind` meets its contract.
+use mathlib.Core.Path.{refl}
 use native.Mathlib.Omega.{arith}
 use borrow.Author.Needs.{needs}
+use borrow.Author.Tests.{le-leb}
 use denote.Ref.{now}
 use Rattle.protocol.specs.Each.{bytesOfEach}
 use Rattle.protocol.specs.Encode.{items, valuesGiven}
 use Rattle.protocol.specs.Fields.{bytes, atomBytes}
 use Rattle.protocol.specs.Kinds as K
 use Rattle.protocol.specs.WellFormed.{bodyBytes}
-use Rattle.pen.proofs.Encoding.{framed}
+use Rattle.pen.proofs.Encoding.{framed-put}
 use Rattle.pen.proofs.GivenLaws.{framed-given}
-use Rattle.pen.proofs.Laws.{_then_, nothing}
+use Rattle.pen.proofs.Puts.{_and_, none}
 use Rattle.encode.specs.Given as G
 use Rattle.encode.proofs.extendedquery.write_bind.Statement.{statement}
 use Rattle.encode.proofs.extendedquery.write_bind.Tie as tie
@@ -29,10 +31,10 @@ returns c =
     (λ vs. (now (a .portal-name), (now (a .statement-name), (items (now (a .parameter-format-codes)), (vs, (items (now (a .result-column-format-codes)), tt))))))
     (valuesGiven (now (a .lengths)) (now (a .joined)))
     (λ vs is.
-    framed K.bind (now (a .portal-name), (now (a .statement-name), (items (now (a .parameter-format-codes)), (vs, (items (now (a .result-column-format-codes)), tt)))))
+    framed-put K.bind (now (a .portal-name), (now (a .statement-name), (items (now (a .parameter-format-codes)), (vs, (items (now (a .result-column-format-codes)), tt)))))
     (c1 .put-head .ensures)
-    (c2 .put-text .ensures then c3 .put-text2 .ensures then c4 .put-formats .ensures then c5 .put-values .ensures .field vs is then c6 .put-formats2 .ensures then nothing)
-    (omega (arith, s .pre)))
+    (c2 .put-text .ensures .fits refl and c3 .put-text2 .ensures .fits refl and c4 .put-formats .ensures .fits (le-leb _ _ (s .pre .3)) and (λ _. c5 .put-values .ensures .field vs is) and c6 .put-formats2 .ensures .fits (le-leb _ _ (s .pre .5)) and none)
+    (omega (arith, s .pre)) (s .pre .1) (s .pre .2))
 
 pub write-bind-spec : {M : Type 1} → statement M
 write-bind-spec =

@@ -1,4 +1,5 @@
 -- `encode::extendedquery::write_execute` meets its contract.
+use mathlib.Core.Path.{refl}
 use native.Mathlib.Omega.{arith}
 use borrow.Author.Needs.{needs}
 use denote.Ref.{now}
@@ -6,8 +7,8 @@ use Rattle.protocol.specs.Each.{bytesOfEach}
 use Rattle.protocol.specs.Fields.{bytes, atomBytes}
 use Rattle.protocol.specs.Kinds as K
 use Rattle.protocol.specs.WellFormed.{bodyBytes}
-use Rattle.pen.proofs.Encoding.{framed}
-use Rattle.pen.proofs.Laws.{_then_, nothing}
+use Rattle.pen.proofs.Encoding.{framed-put}
+use Rattle.pen.proofs.Puts.{_and_, none}
 use Rattle.encode.specs.Given as G
 use Rattle.encode.proofs.extendedquery.write_execute.Statement.{statement}
 use Rattle.encode.proofs.extendedquery.write_execute.Tie as tie
@@ -19,9 +20,9 @@ returns c = λ z e.
     let c2 = c3 .before .before .before .before in
     let c1 = c2 .before .before .before .before in
     let s = c1 .before .before .before .before in
-    framed K.execute (now (s .args .name), (z, tt)) (c1 .put-head .ensures)
-    (c2 .put-text .ensures then rw e at (c3 .put-word .ensures) then nothing)
-    (omega (arith, s .pre))
+    framed-put K.execute (now (s .args .name), (z, tt)) (c1 .put-head .ensures)
+    (c2 .put-text .ensures .fits refl and rw e at (c3 .put-word .ensures .fits refl) and none)
+    (omega (arith, s .pre)) (s .pre .1) (omega (arith, s .pre))
 
 pub write-execute-spec : {M : Type 1} → statement M
 write-execute-spec =

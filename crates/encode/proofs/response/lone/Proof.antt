@@ -22,7 +22,7 @@ returns-2 c =
     let w = c .before .before in
     let s = w .before .before .before .before in
     done (enough K.tlsAnswer (G.lone (s .args .byte)) tt refl refl refl (omega (arith, w .before .before .if1))) refl
-    (framed-whole (G.lone (s .args .byte)) tt (w .put-byte .ensures))
+    (framed-whole (G.lone (s .args .byte)) tt (w .put-byte .ensures .fits refl (omega (arith, w .before .before .if1))))
 
 pub lone-spec : {M : Type 1} → statement M
 lone-spec = tie.close (tie.spec returns (λ c κs. search needs) (λ c. search needs) returns-2)

@@ -1,4 +1,5 @@
 -- `encode::response::write_notification_response` meets its contract.
+use mathlib.Core.Path.{refl}
 use native.Mathlib.Omega.{arith}
 use borrow.Author.Needs.{needs}
 use denote.Ref.{now}
@@ -6,8 +7,8 @@ use Rattle.protocol.specs.Each.{bytesOfEach}
 use Rattle.protocol.specs.Fields.{bytes, atomBytes}
 use Rattle.protocol.specs.Kinds as K
 use Rattle.protocol.specs.WellFormed.{bodyBytes}
-use Rattle.pen.proofs.Encoding.{framed}
-use Rattle.pen.proofs.Laws.{_then_, nothing}
+use Rattle.pen.proofs.Encoding.{framed-put}
+use Rattle.pen.proofs.Puts.{_and_, none}
 use Rattle.encode.specs.Given as G
 use Rattle.encode.proofs.response.write_notification_response.Statement.{statement}
 use Rattle.encode.proofs.response.write_notification_response.Tie as tie
@@ -20,9 +21,9 @@ returns c = λ z e.
     let c2 = c3 .before .before .before .before in
     let c1 = c2 .before .before .before .before in
     let s = c1 .before .before .before .before .before in
-    framed K.notificationResponse (z, (now (s .args .channel), (now (s .args .payload), tt))) (c1 .put-head .ensures)
-    (rw e at (c2 .put-word .ensures) then c3 .put-text .ensures then c4 .put-text2 .ensures then nothing)
-    (omega (arith, s .pre))
+    framed-put K.notificationResponse (z, (now (s .args .channel), (now (s .args .payload), tt))) (c1 .put-head .ensures)
+    (rw e at (c2 .put-word .ensures .fits refl) and c3 .put-text .ensures .fits refl and c4 .put-text2 .ensures .fits refl and none)
+    (omega (arith, s .pre)) (s .pre .1) (s .pre .2)
 
 pub write-notification-response-spec : {M : Type 1} → statement M
 write-notification-response-spec =

@@ -5,9 +5,9 @@ use denote.Ref.{now}
 use Rattle.protocol.specs.Each.{bytesOfEach}
 use Rattle.protocol.specs.Encode.{errorFieldsGiven}
 use Rattle.protocol.specs.WellFormed.{bodyBytes}
-use Rattle.pen.proofs.Encoding.{framed}
+use Rattle.pen.proofs.Encoding.{framed-put}
 use Rattle.pen.proofs.GivenLaws.{framed-given}
-use Rattle.pen.proofs.Laws.{_then_, nothing}
+use Rattle.pen.proofs.Puts.{_and_, none}
 use Rattle.encode.specs.Given as G
 use Rattle.encode.proofs.response.write_report.Statement.{statement}
 use Rattle.encode.proofs.response.write_report.Tie as tie
@@ -20,7 +20,7 @@ returns c =
     let s = c1 .before .before .before .before .before .before in
     let a = s .args in
     framed-given (G.reported (a .type-byte)) (λ fs. (fs, tt)) (errorFieldsGiven (now (a .codes)) (now (a .lengths)) (now (a .joined)))
-    (λ fs is. framed (G.reported (a .type-byte)) (fs, tt) (c1 .put-head .ensures) (c2 .put-errors .ensures .field fs is then nothing) (omega (arith, s .pre)))
+    (λ fs is. framed-put (G.reported (a .type-byte)) (fs, tt) (c1 .put-head .ensures) ((λ _. c2 .put-errors .ensures .field fs is) and none) (omega (arith, s .pre)) (s .pre .1) (s .pre .2))
 
 pub write-report-spec : {M : Type 1} → statement M
 write-report-spec = tie.close (tie.spec (λ c κs. search needs) (λ c κs. search needs) (λ c. search needs) returns)

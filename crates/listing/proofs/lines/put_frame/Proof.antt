@@ -1,4 +1,6 @@
 -- `listing::lines::put_frame` meets its contract: one write after the other.
+use mathlib.Core.Path.{refl}
+use native.Mathlib.Omega.{arith}
 use borrow.Author.Needs.{needs}
 use Rattle.listing.specs.Listing.{frameLine}
 use Rattle.listing.proofs.Writing.{_then_}
@@ -14,8 +16,8 @@ returns c =
     let c3 = c4 .before .before .before .before in
     let c2 = c3 .before .before .before .before in
     let c1 = c2 .before .before .before .before in (
-      c1 .put-number .ensures .0 then c2 .put-byte .ensures then c3 .put-name .ensures .0 then c4 .put-byte2 .ensures then c5 .put-number2 .ensures .0
-          then c6 .put-byte3 .ensures,
+      c1 .put-number .ensures .0 then c2 .put-byte .ensures .fits refl (omega arith) then c3 .put-name .ensures .0 then c4 .put-byte2 .ensures .fits refl (omega arith) then c5 .put-number2 .ensures .0
+          then c6 .put-byte3 .ensures .fits refl (omega arith),
       search needs,
     )
 

@@ -1,4 +1,6 @@
 -- `listing::lines::put_refused` meets its contract: one write after the other.
+use mathlib.Core.Path.{refl}
+use native.Mathlib.Omega.{arith}
 use borrow.Author.Needs.{needs}
 use Rattle.listing.specs.Listing.{endLine}
 use Rattle.listing.proofs.Writing.{_then_}
@@ -13,7 +15,7 @@ returns c =
     let c3 = c4 .before .before .before .before in
     let c2 = c3 .before .before .before .before in
     let c1 = c2 .before .before .before .before in (
-      c1 .put-bytes .ensures then c2 .put-number .ensures .0 then c3 .put-byte .ensures then c4 .put-number2 .ensures .0 then c5 .put-byte2 .ensures,
+      c1 .put-bytes .ensures .fits refl (omega arith) then c2 .put-number .ensures .0 then c3 .put-byte .ensures .fits refl (omega arith) then c4 .put-number2 .ensures .0 then c5 .put-byte2 .ensures .fits refl (omega arith),
       search needs,
     )
 

@@ -1,4 +1,6 @@
 -- `listing::lines::put_words` meets its contract: one write after the other.
+use mathlib.Core.Path.{refl}
+use native.Mathlib.Omega.{arith}
 use borrow.Author.Needs.{needs}
 use Rattle.listing.proofs.Writing.{_then_}
 use Rattle.listing.proofs.lines.put_words.Statement.{statement}
@@ -9,7 +11,7 @@ returns c =
     let c3 = c .before .before in
     let c2 = c3 .before .before .before .before in
     let c1 = c2 .before .before .before .before in
-    (c1 .put-bytes .ensures then c2 .put-number .ensures .0 then c3 .put-byte .ensures, search needs)
+    (c1 .put-bytes .ensures .fits refl (omega arith) then c2 .put-number .ensures .0 then c3 .put-byte .ensures .fits refl (omega arith), search needs)
 
 pub put-words-spec : {M : Type 1} → statement M
 put-words-spec =

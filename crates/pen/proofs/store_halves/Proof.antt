@@ -1,4 +1,4 @@
--- `pen::put_halves` meets its contract.
+-- `pen::store_halves` meets its contract.
 use Prim.Native.Nat.{ℕ, _+_, _*_, _-_, _≤_}
 use mathlib.Core.List.{List}
 use mathlib.Core.Path.{_≡_, ap, _∙_, sym}
@@ -12,8 +12,8 @@ use Rattle.protocol.specs.Kinds.{format}
 use Rattle.pen.specs.Writing.{write}
 use Rattle.pen.proofs.Laws.{turn, drop-end}
 use Rattle.pen.proofs.Lists.{halves-more, length-halves}
-use Rattle.pen.proofs.put_halves.Statement.{statement}
-use Rattle.pen.proofs.put_halves.Tie as tie
+use Rattle.pen.proofs.store_halves.Statement.{statement}
+use Rattle.pen.proofs.store_halves.Tie as tie
 
 abbrev all : List ℤ → List ℕ
 all zs = itemsBytes format (items zs)
@@ -33,7 +33,7 @@ loop-again c =
     let q = n .before .before .loop in
     let xs = n .before .before .before .before .args .xs .now in
     let more = ap (write (q .out) (q .p)) (sym (halves-more xs (q .i) (omega arith) (w .before .before .bits16-arg .given) (w .before .bits16 .ensures))) in
-    (search needs, search needs, search needs, turn (all (drop (q .i + 1) xs)) (w .put-half .ensures) (more ∙ q .inv .3))
+    (search needs, search needs, search needs, turn (all (drop (q .i + 1) xs)) (w .store-half .ensures) (more ∙ q .inv .3))
 
 returns : tie.Need-returns Inv-loop μ-loop
 unfolding itemsBytes
@@ -46,8 +46,8 @@ returns c =
       place = omega arith;
     }
 
-pub put-halves-spec : {M : Type 1} → statement M
-put-halves-spec =
+pub store-halves-spec : {M : Type 1} → statement M
+store-halves-spec =
     tie.close
     (tie.spec
     Inv-loop

@@ -1,4 +1,4 @@
--- `pen::put_words` meets its contract.
+-- `pen::store_words` meets its contract.
 use Prim.Native.Nat.{ℕ, _+_, _*_, _-_, _≤_}
 use mathlib.Core.List.{List}
 use mathlib.Core.Path.{_≡_, ap, _∙_, sym}
@@ -11,8 +11,8 @@ use Rattle.protocol.specs.Kinds.{oid}
 use Rattle.pen.specs.Writing.{write}
 use Rattle.pen.proofs.Laws.{turn, drop-end}
 use Rattle.pen.proofs.Lists.{words-more, length-words}
-use Rattle.pen.proofs.put_words.Statement.{statement}
-use Rattle.pen.proofs.put_words.Tie as tie
+use Rattle.pen.proofs.store_words.Statement.{statement}
+use Rattle.pen.proofs.store_words.Tie as tie
 
 abbrev all : List ℕ → List ℕ
 all xs = itemsBytes oid (items xs)
@@ -31,7 +31,7 @@ loop-again c =
     let q = w .before .before .before .before .loop in
     let xs = w .before .before .before .before .before .before .before .args .xs .now in
     let more = ap (write (q .out) (q .p)) (sym (words-more xs (q .i) (omega arith))) in
-    (search needs, search needs, search needs, turn (all (drop (q .i + 1) xs)) (w .put-word .ensures) (more ∙ q .inv .3))
+    (search needs, search needs, search needs, turn (all (drop (q .i + 1) xs)) (w .store-word .ensures) (more ∙ q .inv .3))
 
 returns : tie.Need-returns Inv-loop μ-loop
 unfolding itemsBytes
@@ -44,8 +44,8 @@ returns c =
       place = omega arith;
     }
 
-pub put-words-spec : {M : Type 1} → statement M
-put-words-spec =
+pub store-words-spec : {M : Type 1} → statement M
+store-words-spec =
     tie.close
     (tie.spec
     Inv-loop

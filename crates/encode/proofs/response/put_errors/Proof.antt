@@ -1,17 +1,34 @@
--- `pen::errors::put_errors` meets its contract.
-use Prim.Native.Nat.{_+_, _*_, _-_, _≤_}
+-- `encode::response::put_errors` meets its contract.
+use Prim.Native.Nat.{ℕ, _+_, _*_, _-_, _≤_, _<_}
 use mathlib.Core.Bool.{true}
+use mathlib.Core.List.{List, [], _∷_}
 use mathlib.Core.Path.{_≡_, refl, ap, _∙_, sym}
 use native.Mathlib.Omega.{arith}
 use borrow.Author.Needs.{needs}
 use lib.ListN.{length, getD, drop, length-take, length-drop}
 use Rattle.protocol.specs.Encode.{errorFieldsGiven}
+use Rattle.protocol.specs.Fields.{ended, bytes}
+use Rattle.protocol.specs.Kinds.{errorField}
 use Rattle.pen.specs.Given.{isSome}
-use Rattle.pen.specs.Writing.{write}
+use Rattle.pen.specs.Writing.{write, Wrote}
 use Rattle.pen.proofs.Laws.{turn, _then_}
-use Rattle.pen.proofs.ErrorLaws.{errors-many, error-right, error-over, errorsBytes, errors-more, errors-none, errors-field}
-use Rattle.pen.proofs.errors.put_errors.Statement.{statement}
-use Rattle.pen.proofs.errors.put_errors.Tie as tie
+use Rattle.pen.proofs.ErrorLaws.{errors-many, error-right, error-over, errorsBytes, errors-more, errors-none, errors-are}
+use Rattle.encode.specs.Writing.{WroteGiven}
+use Rattle.encode.proofs.response.put_errors.Statement.{statement}
+use Rattle.encode.proofs.response.put_errors.Tie as tie
+
+-- the fields, and then the zero byte
+errors-field : {d mid out : List ℕ} {p at next : ℕ} (cs ns bs : List ℕ) → ((i : ℕ) → getD cs i 0 < 256)
+    → mid ≡ write d p (errorsBytes cs ns bs) → at ≡ p + (2 * length cs + length bs) → Wrote mid at (0 ∷ []) 1 out next
+    → WroteGiven (ended errorField) (errorFieldsGiven cs ns bs) d p (2 * length cs + length bs + 1) out next
+unfolding bytes
+errors-field {d} {mid} {out} {p} {at} cs ns bs small e is-at w = record {
+  field = λ fs is.
+      let v = errors-are cs ns bs fs small is in
+      let u : Wrote d p (errorsBytes cs ns bs) (2 * length cs + length bs) mid at = record { bytes = e; size = v .size; place = is-at } in
+      rw (v .written) (u then w);
+  place = omega (arith, w .place);
+}
 
 -- what is left to write
 abbrev Inv-loop : tie.InvT-loop
@@ -49,10 +66,6 @@ add-e c = omega (arith, right (c .before) .0)
 part-put-text-end : tie.Need-part-put-text-end Inv-loop μ-loop
 part-put-text-end c = omega (arith, right (c .before .before .before .before .before .before .before) .0)
 
-put-text-requires : tie.Need-put-text-requires Inv-loop μ-loop
-put-text-requires c κs =
-    simp (length-take, length-drop) (omega (arith, right (c .before .before .before .before .before .before .before .before) .0))
-
 loop-again : tie.Need-loop-again Inv-loop μ-loop
 loop-again c =
     let b = c .before .before in
@@ -62,16 +75,18 @@ loop-again c =
     let a = t .before .before .before .before .before .before .args in
     let n = getD (a .lengths .now) (q .i) 0 in
     let r = right t in
-    let p = simp (length-take, length-drop) at (b .put-text .ensures .place) in
+    let u = w .put-byte .ensures .fits refl (omega (arith, r .0)) in
+    let s = b .put-text .ensures .fits refl (simp (length-take, length-drop) (omega (arith, r .0, u .place))) in
+    let p = simp (length-take, length-drop) at (s .place) in
     let v = errors-more (a .codes .now) (a .lengths .now) (a .joined .now) (q .i) (q .j) (t .loop-test .taken) (q .inv .0) in (
       q .inv .0,
       search needs,
       omega (arith, r .0),
-      omega (arith, r .0),
+      omega (arith, r .0, u .place),
       omega arith,
       r .1,
       turn (errorsBytes (drop (q .i + 1) (a .codes .now)) (drop (q .i + 1) (a .lengths .now)) (drop (q .j + n) (a .joined .now)))
-          (w .put-byte .ensures then b .put-text .ensures)
+          (u then s)
           (ap (write (q .out) (q .p)) (sym v) ∙ q .inv .6),
     )
 
@@ -85,7 +100,7 @@ returns c =
     let none = errors-none (a .codes .now) (a .lengths .now) (drop (q .j) (a .joined .now)) (q .i) (t .loop-test .left) (q .inv .0) in
     let all = error-over (a .codes .now) (a .lengths .now) (a .joined .now) (q .i) (q .j) (t .loop-test .left) (q .inv .0) (q .inv .2) (q .inv .5) in
     errors-field (a .codes .now) (a .lengths .now) (a .joined .now) (λ i. k .shared-slice-known .given i .fits)
-    (rw none at (q .inv .6)) (omega (arith, all)) (w .put-byte2 .ensures)
+    (rw none at (q .inv .6)) (omega (arith, all)) (w .put-byte2 .ensures .fits refl (omega (arith, all)))
 
 pub put-errors-spec : {M : Type 1} → statement M
 put-errors-spec =
@@ -103,7 +118,7 @@ put-errors-spec =
     (λ c. search needs)
     (λ c. search needs)
     part-put-text-end
-    put-text-requires
+    (λ c κs. search needs)
     (λ c. search needs)
     (λ c. search needs)
     loop-again

@@ -1,17 +1,36 @@
--- `pen::values::put_values` meets its contract.
-use Prim.Native.Nat.{_+_, _*_, _-_, _≤_}
+-- `encode::put_values` meets its contract.
+use Prim.Native.Nat.{ℕ, _+_, _*_, _-_, _≤_}
 use mathlib.Core.Bool.{true}
-use mathlib.Core.Path.{_≡_, ap, _∙_, sym}
+use mathlib.Core.List.{List}
+use mathlib.Core.Path.{_≡_, refl, ap, _∙_, sym}
 use native.Mathlib.Omega.{arith}
 use borrow.Author.Needs.{needs}
+use lib.IntN.{ℤ}
 use lib.ListN.{length, drop, length-take, length-drop}
+use Rattle.protocol.specs.Bytes.{be}
 use Rattle.protocol.specs.Encode.{valuesGiven}
+use Rattle.protocol.specs.Fields.{bytes}
+use Rattle.protocol.specs.Kinds.{values}
 use Rattle.pen.specs.Given.{isSome}
-use Rattle.pen.specs.Writing.{write}
+use Rattle.pen.specs.Writing.{write, Wrote}
 use Rattle.pen.proofs.Laws.{turn, _then_, drop-end}
-use Rattle.pen.proofs.ValueLaws.{value-right, value-over, valuesBytes, values-more, values-field}
-use Rattle.pen.proofs.values.put_values.Statement.{statement}
-use Rattle.pen.proofs.values.put_values.Tie as tie
+use Rattle.pen.proofs.Puts.{same-size}
+use Rattle.pen.proofs.ValueLaws.{value-right, value-over, valuesBytes, values-more, values-are}
+use Rattle.encode.specs.Writing.{WroteGiven}
+use Rattle.encode.proofs.put_values.Statement.{statement}
+use Rattle.encode.proofs.put_values.Tie as tie
+
+-- the count, and then the values
+values-field : {d mid out : List ℕ} {p at next : ℕ} (zs : List ℤ) (bs : List ℕ)
+    → Wrote d p (be 2 (length zs)) 2 mid at → out ≡ write mid at (valuesBytes zs bs) → next ≡ at + (4 * length zs + length bs)
+    → WroteGiven values (valuesGiven zs bs) d p (2 + (4 * length zs + length bs)) out next
+unfolding bytes
+values-field zs bs w e at = record {
+  field = λ vs is.
+      let v = values-are zs bs vs is in
+      rw (v .many, v .written) (w then record { bytes = e; size = v .size; place = at });
+  place = omega (arith, w .place);
+}
 
 -- what is left to write
 abbrev Inv-loop : tie.InvT-loop
@@ -39,27 +58,27 @@ add-e c = omega (arith, right c .0)
 part-put-bytes-end : tie.Need-part-put-bytes-end Inv-loop μ-loop
 part-put-bytes-end c = omega (arith, right (c .before .before .before .before .before .before) .0)
 
-put-bytes-requires : tie.Need-put-bytes-requires Inv-loop μ-loop
-put-bytes-requires c κs =
-    simp (length-take, length-drop) (omega (arith, right (c .before .before .before .before .before .before .before) .0))
-
 loop-again : tie.Need-loop-again Inv-loop μ-loop
 loop-again c =
     let b = c .before .before in
     let w = b .before .before .before .before .before in
     let k = w .before .before .before in
     let q = k .before .before .before .loop in
-    let a = k .before .before .before .before .before .before .before .before .before .before .args in
+    let z = k .before .before .before .before .before .before .before .before .before .before in
+    let a = z .args in
     let r = right k in
-    let p = simp (length-take, length-drop) at (b .put-bytes .ensures .place) in
+    let h = k .before .before .before .before .before .before .put-half .ensures .fits refl (omega (arith, z .pre .0)) in
+    let u = w .put-word .ensures .fits refl (omega (arith, r .0, h .place, same-size h)) in
+    let t = b .put-bytes .ensures .fits refl (simp (length-take, length-drop) (omega (arith, r .0, u .place))) in
+    let p = simp (length-take, length-drop) at (t .place) in
     let v = values-more (a .lengths .now) (a .joined .now) (q .i) (q .j) (k .before .before .loop-test .taken) (k .before .n .given) (w .before .bits32 .ensures) (k .size-of .ensures) in (
       search needs,
       omega (arith, r .0),
-      omega (arith, r .0),
+      omega (arith, r .0, u .place),
       omega arith,
       r .1,
       turn (valuesBytes (drop (q .i + 1) (a .lengths .now)) (drop (q .j + k .size-of .result) (a .joined .now)))
-          (w .put-word .ensures then b .put-bytes .ensures)
+          (u then t)
           (ap (write (q .out) (q .p)) (sym v) ∙ q .inv .5),
     )
 
@@ -69,7 +88,7 @@ returns c =
     let q = c .before .loop in
     let a = c .before .before .before .before .before .before .before .before .args in
     let j = value-over (a .lengths .now) (a .joined .now) (q .i) (q .j) (c .loop-test .left) (q .inv .1) (q .inv .4) in
-    values-field (a .lengths .now) (a .joined .now) (c .before .before .before .before .put-half .ensures) (rw (drop-end (a .lengths .now) (q .i) (c .loop-test .left)) at (q .inv .5)) (omega (arith, j))
+    values-field (a .lengths .now) (a .joined .now) (c .before .before .before .before .put-half .ensures .fits refl (omega arith)) (rw (drop-end (a .lengths .now) (q .i) (c .loop-test .left)) at (q .inv .5)) (omega (arith, j))
 
 pub put-values-spec : {M : Type 1} → statement M
 put-values-spec =
@@ -89,7 +108,7 @@ put-values-spec =
     (λ c. search needs)
     (λ c. search needs)
     part-put-bytes-end
-    put-bytes-requires
+    (λ c κs. search needs)
     (λ c. search needs)
     (λ c. search needs)
     loop-again

@@ -1,0 +1,24 @@
+-- `pen::store_half` meets its contract.
+use borrow.Author.Needs.{needs}
+use Rattle.protocol.specs.Bytes.{be}
+use Rattle.pen.proofs.Laws.{_then_}
+use Rattle.pen.proofs.store_half.Statement.{statement}
+use Rattle.pen.proofs.store_half.Tie as tie
+
+returns : tie.Need-returns
+unfolding be
+returns c =
+    let b = c .before .before in
+    let a = b .before .before .before .before in
+    a .store-byte .ensures then b .store-byte2 .ensures
+
+pub store-half-spec : {M : Type 1} → statement M
+store-half-spec =
+    tie.close
+    (tie.spec
+    (λ c. search needs)
+    (λ c κs. search needs)
+    (λ c. search needs)
+    (λ c κs. search needs)
+    (λ c. search needs)
+    returns)
