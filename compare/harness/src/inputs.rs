@@ -1,7 +1,7 @@
 //! Inputs: random contents of every kind, their frames, and damage.
 
 use crate::content::{Content, Field, RowField};
-use crate::model::{self, Kind, Part};
+use crate::model::{self, Given, Kind, Part};
 
 /// splitmix64: the same inputs for the same seed everywhere.
 #[derive(Clone)]
@@ -209,4 +209,28 @@ pub fn spoiled(r: &mut Rng, c: &Content) -> Content {
         _ => {}
     }
     c
+}
+
+/// Arguments of an encoder that are no content of the kind, where they can be: lengths, codes and names that do not fit each other.
+pub fn misgiven(r: &mut Rng, c: &Content) -> Given {
+    let mut g = model::given(c);
+    let number = *r.pick(&[-2, -1, 0, 1, i32::MAX, i32::MIN]);
+    match r.below(7) {
+        0 if !g.lengths.is_empty() => *last(&mut g.lengths) = number,
+        1 if !g.sizes.is_empty() => *last(&mut g.sizes) = number as u32,
+        2 if !g.sizes.is_empty() => drop(g.sizes.pop()),
+        3 if !g.codes.is_empty() => drop(g.codes.pop()),
+        4 if !g.rows.is_empty() => {
+            let far = *r.pick(&[0, 1, g.joined.len(), g.joined.len() + 1, usize::MAX]);
+            let row = last(&mut g.rows);
+            if r.one_in(2) { row.start = far } else { row.len = far }
+        }
+        5 => drop(g.joined.pop()),
+        _ => g.joined.push(r.next() as u8),
+    }
+    g
+}
+
+fn last<T>(xs: &mut [T]) -> &mut T {
+    xs.last_mut().expect("a list that is not empty")
 }

@@ -3,7 +3,9 @@
 //!     compare COUNT SEED CORPUS       inputs of every sort, until COUNT cases are made
 //!     compare list SEED CORPUS        the fixed list, on standard output
 //!     compare show MODE HEX ..        what each answers of one input
+//!     compare bench, compare table    executed instructions: bench.rs
 
+mod bench;
 mod content;
 mod differences;
 mod inputs;
@@ -28,7 +30,9 @@ struct Run {
     panics: u64,
     failures: u64,
     elements: u64,
+    rows: u64,
     encoded: u64,
+    ours_encoded: u64,
     sources: BTreeMap<&'static str, u64>,
     /// Encoding: how many contents were equal, or under which entry.
     written: BTreeMap<&'static str, u64>,
@@ -57,7 +61,9 @@ impl Run {
             panics: 0,
             failures: 0,
             elements: 0,
+            rows: 0,
             encoded: 0,
+            ours_encoded: 0,
             sources: BTreeMap::new(),
             written: BTreeMap::new(),
             source: "",
@@ -109,8 +115,10 @@ impl Run {
                 self.fail(what, mode, buf, format!("ours {expected:?}\n  the Rust {seen:?}, {consumed} consumed"))
             }
         }
-        #[cfg(feature = "elements")]
         self.elements_of(mode, buf, &expected);
+        if mode == 1 {
+            self.row_of(buf, &expected);
+        }
         if let Some(mut sample) = self.sample.take() {
             sample(mode, buf, &expected, &seen, consumed, &verdict, self.source);
             self.sample = Some(sample);
@@ -118,7 +126,6 @@ impl Run {
     }
 
     /// The elements of each list: all of a short one; of a long one the first, the last and some; and what is past the end.
-    #[cfg(feature = "elements")]
     fn elements_of(&mut self, mode: u8, buf: &[u8], answer: &Answer) {
         let lists = match answer {
             Answer::Record(k, _, slots) => model::lists(k, slots).iter().map(|(_, _, n)| *n).collect(),
@@ -138,6 +145,56 @@ impl Run {
         }
     }
 
+    /// A row in one pass, into slices that are long enough, one too short, and longer; and its values one after another.
+    fn row_of(&mut self, buf: &[u8], answer: &Answer) {
+        let (count, entries) = match answer {
+            Answer::Record(k, _, slots) if k.number == 19 => {
+                let n = model::lists(k, slots)[0].2;
+                (n, (0..n).map(|i| model::element(1, buf, 0, i)).collect())
+            }
+            _ => (0, Vec::new()),
+        };
+        if count > 300 {
+            return; // the model reads each element from the list's start
+        }
+        self.rows += 1;
+        for (room, room2) in [(count, count), (count.saturating_sub(1), count), (count, count.saturating_sub(1)), (count + 2, count + 3)] {
+            let (mut starts, mut lengths) = (vec![77; room], vec![-77; room2]);
+            let got = ours::data_row(buf, &mut starts, &mut lengths);
+            let expected = model::row_answer(answer, room.min(room2));
+            let (mut starts2, mut lengths2) = (vec![77; room], vec![-77; room2]);
+            if expected[0] == 0 {
+                for (i, e) in entries.iter().enumerate() {
+                    (starts2[i], lengths2[i]) = match e {
+                        model::Element::Value(start, len) => (*start, *len as i32),
+                        _ => (0, -1),
+                    };
+                }
+            }
+            if got != expected || starts != starts2 || lengths != lengths2 {
+                self.fail("another row", 1, buf, format!("ours {got:?} {starts:?} {lengths:?}\n  model {expected:?} {starts2:?} {lengths2:?}"));
+            }
+        }
+        let Answer::Record(k, consumed, slots) = answer else { return };
+        if k.number != 19 {
+            return;
+        }
+        let mut at = model::lists(k, slots)[0].1;
+        for e in &entries {
+            let got = ours::value(&buf[..*consumed], at);
+            let next = match e {
+                model::Element::Value(start, len) => start + len,
+                _ => at + 4,
+            };
+            let mut expected = model::element_row(e);
+            expected[3] = next;
+            if got != expected {
+                self.fail("another value", 1, buf, format!("at {at}: ours {got:?}\n  model {expected:?}"));
+            }
+            at = next;
+        }
+    }
+
     /// One content: what the model of document 01, the Rust and the library write of it.
     fn encode(&mut self, c: &Content) {
         self.encoded += 1;
@@ -147,7 +204,10 @@ impl Run {
         if let Some(verdict) = seen.as_ref().map(|s| differences::judge_encoded(c, &expected, s)) {
             match verdict {
                 Verdict::Equal | Verdict::BothRefuse => *self.written.entry("equal").or_default() += 1,
-                Verdict::Under(e) => *self.written.entry(e).or_default() += 1,
+                Verdict::Under(e) => {
+                    assert!(differences::ENCODE_ENTRIES.contains(&e));
+                    *self.written.entry(e).or_default() += 1
+                }
                 Verdict::Unexplained(what) => {
                     let written = |r: &Result<Vec<u8>, u8>| format!("{:?}", r.as_ref().map(|f| hex(f)));
                     self.fail(what, 0, &[], format!("{c:?}\n  model {}\n  the Rust {seen:?}", written(&expected)))
@@ -156,25 +216,25 @@ impl Run {
         } else {
             *self.written.entry("text").or_default() += 1;
         }
-        #[cfg(feature = "encoding")]
         self.encode_ours(&g);
     }
 
     /// The library, with the output just long enough, one byte short, empty, and longer: every byte written, and the bytes after them.
-    #[cfg(feature = "encoding")]
     fn encode_ours(&mut self, g: &model::Given) {
+        self.ours_encoded += 1;
         let full = model::encode(g, usize::MAX).map(|f| f.len()).unwrap_or(64);
         for room in [full, full.saturating_sub(1), 0, full + 9] {
             let expected = model::encode(g, room);
             let mut out: Vec<u8> = (0..room).map(|i| (i % 251) as u8 ^ 0x5a).collect();
             let before = out.clone();
-            let Some(answer) = ours::encode(g, &mut out) else { return };
-            let (row, left) = match &expected {
-                Ok(f) => ([0, 0, 0, f.len()], [&f[..], &before[f.len()..]].concat()),
-                Err(n) => ([2, *n as usize, 0, 0], before),
+            let answer = ours::encode(g, &mut out);
+            let left = match &expected {
+                Ok(f) => [&f[..], &before[f.len()..]].concat(),
+                Err(_) => before,
             };
-            if answer != row || out != left {
-                self.fail("written otherwise", 0, &out, format!("{g:?}\n  room {room}: ours {answer:?}, model {row:?}"));
+            let expected = expected.map(|f| f.len());
+            if answer != expected || out != left {
+                self.fail("written otherwise", 0, &out, format!("{g:?}\n  room {room}: ours {answer:?}, model {expected:?}"));
             }
         }
     }
@@ -188,10 +248,8 @@ impl Run {
         for (s, n) in &self.sources {
             println!("  {n:>10}  {s}");
         }
-        if self.elements > 0 {
-            println!("elements: {} calls", self.elements);
-        }
-        println!("encoding: {} contents", self.encoded);
+        println!("elements: {} calls; rows in one pass: {}", self.elements, self.rows);
+        println!("encoding: {} contents; with what is no content {} by the library, each into four outputs", self.encoded, self.ours_encoded);
         for (e, n) in &self.written {
             println!("{n:>12}  {e}");
         }
@@ -238,6 +296,27 @@ fn bytes_alone(run: &mut Run) {
             for second in [0, 4, 255] {
                 run.decode(mode, &[b, second]);
                 run.decode(mode, &[b, 0, 0, 0, second]);
+            }
+        }
+    }
+}
+
+/// Kinds that no encoder has, and answers that are neither accept nor refuse: refusal 2, with nothing written.
+fn unknown_kinds(run: &mut Run) {
+    for kind in (0..64).chain([usize::MAX]) {
+        for byte in 0..=255 {
+            let given = model::Given { kind: kind as u8, ..model::Given::default() };
+            let mut out = [9; 64];
+            let plain = matches!(kind, 3..=16 | 20 | 21 | 27 | 28) || (matches!(kind, 29 | 30) && byte < 2);
+            if !plain && ours::plain(kind, byte, 0, 0, &[], &[], &mut out) != usize::MAX - 2 {
+                run.fail("an unknown kind is written", 0, &out, format!("tusweram_encode of kind {kind}, byte {byte}"));
+            }
+            let listed = matches!(kind, 1 | 2 | 18 | 19 | 22..=26);
+            if !listed && kind < 256 && ours::lists(&given, &[], &[], &[], &mut out) != usize::MAX - 2 {
+                run.fail("an unknown kind is written", 0, &out, format!("tusweram_encode_lists of kind {kind}"));
+            }
+            if out != [9; 64] {
+                run.fail("an unknown kind is written", 0, &out, format!("kind {kind}"));
             }
         }
     }
@@ -308,6 +387,7 @@ fn random(run: &mut Run, r: &mut Rng) {
     run.encode(&c);
     let f = inputs::frame(&c);
     run.encode(&inputs::spoiled(r, &c));
+    run.encode_ours(&inputs::misgiven(r, &c));
     let other = r.pick(&KINDS);
     let next = inputs::frame(&inputs::content(r, other));
     let all = f.len() <= 40 && r.one_in(4);
@@ -419,6 +499,7 @@ fn everything(run: &mut Run, count: u64, seed: u64, folder: &str) {
     let traffic = corpus(folder);
     println!("{} frames of real traffic", traffic.len());
     bytes_alone(run);
+    unknown_kinds(run);
     // the alphabet by what the count allows
     let letters = (3..=6).rev().find(|n| 29 * (*n as u64).pow(7) * 6 / 5 < count / 2).unwrap_or(3);
     println!("an alphabet of {letters} bytes: {}", hex(&ALPHABET[..letters]));
@@ -516,6 +597,13 @@ fn main() {
         println!("ours {:?}\nmodel {expected:?}\nthe Rust {seen:?}, {consumed} consumed", ours::decode(mode, &buf));
         println!("{:?}", judge(mode, &buf, &expected, &seen, consumed));
         return;
+    }
+    if args[1] == "bench" {
+        return bench::run(&corpus(&args[2]), None);
+    }
+    if args[1] == "table" {
+        let counts = std::fs::read_to_string(&args[3]).expect("the counts");
+        return bench::run(&corpus(&args[2]), Some(counts.lines().map(|l| l.parse().expect("a count")).collect()));
     }
     let (what, seed, folder) = (&args[1], args[2].parse().expect("a seed"), &args[3]);
     if what == "list" {

@@ -514,6 +514,15 @@ pub fn row(answer: &Answer) -> Row {
     out
 }
 
+/// A row read in one pass into slices of which the shorter has room for so many entries.
+pub fn row_answer(answer: &Answer, room: usize) -> Row {
+    match answer {
+        Answer::Record(k, _, slots) if k.number == 19 && lists(k, slots)[0].2 > room => row(&Answer::Refused(9, 0)),
+        Answer::Record(k, _, _) if k.number != 19 => row(&Answer::Refused(11, 0)),
+        other => row(other),
+    }
+}
+
 pub fn element_row(e: &Element) -> Row {
     let mut out = [0; ROW];
     let mut put = |xs: &[usize]| out[4..4 + xs.len()].copy_from_slice(xs);
@@ -548,6 +557,7 @@ pub fn element_row(e: &Element) -> Row {
 
 /// A field of a RowDescription to be written: its name is a part of the run.
 #[derive(Clone, PartialEq, Eq, Debug)]
+#[repr(C)]
 pub struct RowGiven {
     pub start: usize,
     pub len: usize,

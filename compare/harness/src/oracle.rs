@@ -6,6 +6,7 @@ use pgwire::error::PgWireError;
 use pgwire::messages::cancel::CancelRequest;
 use pgwire::messages::response::{GssEncResponse, SslResponse};
 use pgwire::messages::{DecodeContext, Message, PgWireBackendMessage as Back, PgWireFrontendMessage as Front, ProtocolVersion};
+use std::hint::black_box;
 use std::panic::{catch_unwind, AssertUnwindSafe};
 use std::sync::atomic::{AtomicBool, Ordering};
 
@@ -33,7 +34,7 @@ pub enum Seen {
     NotCalled,
 }
 
-fn context(mode: u8) -> DecodeContext {
+pub fn context(mode: u8) -> DecodeContext {
     // Cancel is compared under 3.0, where the key has four bytes.
     let mut c = DecodeContext::new(ProtocolVersion::PROTOCOL3_0);
     c.awaiting_frontend_ssl = false;
@@ -41,6 +42,15 @@ fn context(mode: u8) -> DecodeContext {
     c.awaiting_backend_ssl_response = mode == 3;
     c.awaiting_backend_gss_response = mode == 4;
     c
+}
+
+/// One call as it is, for the counting of instructions: the frame is known to be well-formed.
+pub fn decode_bare(mode: u8, mut bytes: BytesMut, ctx: &DecodeContext) {
+    match mode {
+        0 => drop(black_box(Front::decode(&mut bytes, ctx))),
+        2 => drop(black_box(CancelRequest::decode(&mut bytes, ctx))),
+        _ => drop(black_box(Back::decode(&mut bytes, ctx))),
+    }
 }
 
 /// The answer, and how many bytes are gone from the buffer.
@@ -198,7 +208,15 @@ pub fn encode(c: &Content) -> Option<Result<Vec<u8>, Seen>> {
     })
 }
 
-enum Either {
+/// One call as it is, of a message that can be written.
+pub fn encode_bare(m: &Either, out: &mut BytesMut) {
+    let _ = black_box(match m {
+        Either::Front(m) => m.encode(out),
+        Either::Back(m) => m.encode(out),
+    });
+}
+
+pub enum Either {
     Front(Front),
     Back(Back),
 }
@@ -239,7 +257,8 @@ fn error_fields(f: &Field) -> Option<Vec<(u8, String)>> {
     v.iter().map(|(c, s)| Some((*c, String::from_utf8(s.clone()).ok()?))).collect()
 }
 
-fn message(c: &Content) -> Option<Either> {
+/// The Rust's form of a content, where it has one.
+pub fn message(c: &Content) -> Option<Either> {
     use pgwire::messages::{cancel, copy, data, extendedquery as eq, response, startup::SecretKey};
     let f = &c.fields;
     let front = |m| Some(Either::Front(m));
