@@ -1,13 +1,17 @@
-//! The Rattle library: the exported functions of crate `host`, in one static archive.
+//! The Rattle library: the exported functions of crates `host` and `parts`, a static archive each.
 
 use crate::model::{Given, Row, RowGiven, ROW};
+
+#[link(name = "parts", kind = "static")]
+unsafe extern "C" {
+    fn tusweram_element(mode: u8, buf: *const u8, len: usize, list: usize, number: usize, out: *mut usize);
+    fn tusweram_value(frame: *const u8, len: usize, at: usize, out: *mut usize);
+    fn tusweram_data_row(buf: *const u8, len: usize, starts: *mut usize, starts_len: usize, lengths: *mut i32, lengths_len: usize, out: *mut usize);
+}
 
 #[link(name = "host", kind = "static")]
 unsafe extern "C" {
     fn tusweram_decode(mode: u8, buf: *const u8, len: usize, out: *mut usize);
-    fn tusweram_element(mode: u8, buf: *const u8, len: usize, list: usize, number: usize, out: *mut usize);
-    fn tusweram_value(frame: *const u8, len: usize, at: usize, out: *mut usize);
-    fn tusweram_data_row(buf: *const u8, len: usize, starts: *mut usize, starts_len: usize, lengths: *mut i32, lengths_len: usize, out: *mut usize);
     fn tusweram_encode(
         kind: usize,
         byte: u8,

@@ -2,7 +2,5 @@
 // numbers, laid out by the definitions of specs/. No call asks for anything of its input.
 pub mod bits;
 pub mod decoding;
-pub mod elements;
 pub mod encoding;
-pub mod reading;
 pub mod rows;

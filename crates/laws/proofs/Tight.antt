@@ -59,6 +59,7 @@ use Rattle.laws.specs.Tight.Encode.{EncodeTight}
 use Rattle.laws.specs.Tight.Host.{HostTight}
 use Rattle.laws.specs.Tight.Items.{ItemsTight}
 use Rattle.laws.specs.Tight.Listing.{ListingTight}
+use Rattle.laws.specs.Tight.Parts.{PartsTight}
 use Rattle.laws.specs.Tight.Pen.{PenTight}
 use Rattle.laws.specs.Tight.Protocol.{ProtocolTight}
 use Rattle.laws.specs.Tight.Reader.{ReaderTight}
@@ -309,12 +310,9 @@ pub host : HostTight
 host = record {
   bits = λ _ r s p q. p ∙ sym q;
   «tusweram_decode» = λ _ _ _ r s p q. p ∙ sym q;
-  «tusweram_element» = λ _ _ _ _ _ r s p q. p ∙ sym q;
   «tusweram_encode» = λ _ _ _ _ _ _ _ r s x y p q. answers-one p q;
   «tusweram_encode_lists» = λ _ _ _ _ _ _ _ _ _ _ r s x y p q. answers-one p q;
   «tusweram_encode_row_description» = λ _ _ _ r s x y p q. answers-one p q;
-  «tusweram_value» = λ _ _ _ r s p q. p ∙ sym q;
-  «tusweram_data_row» = λ _ _ _ _ r s x y u v p q. (p .answer ∙ sym (q .answer), p .starts ∙ sym (q .starts), p .lengths ∙ sym (q .lengths));
   «need_more» = λ r s p q. p ∙ sym q;
   refused = λ _ _ r s p q. p ∙ sym q;
   none = λ _ _ r s p q. p ∙ sym q;
@@ -345,6 +343,15 @@ listing = record {
   «step_at» = λ _ _ _ r s p q. back-one stepOf step-back step-again r s (p ∙ sym q);
   «opening_of» = λ _ r s p q. p ∙ sym q;
   fill = λ _ _ _ r s x y p q. fills-one p q;
+}
+
+pub parts : PartsTight
+parts = record {
+  «tusweram_element» = λ _ _ _ _ _ r s p q. p ∙ sym q;
+  «tusweram_field» = λ _ _ _ r s p q. p ∙ sym q;
+  «tusweram_error_field» = λ _ _ _ r s p q. p ∙ sym q;
+  «tusweram_value» = λ _ _ _ r s p q. p ∙ sym q;
+  «tusweram_data_row» = λ _ _ _ _ r s x y u v p q. (p .answer ∙ sym (q .answer), p .starts ∙ sym (q .starts), p .lengths ∙ sym (q .lengths));
 }
 
 pub pen : PenTight

@@ -15,6 +15,7 @@ pub mod Rows
 pub mod Encode
 pub mod Reader
 pub mod Listing
+pub mod Parts
 pub mod Host
 
 -- an answer

@@ -1,10 +1,10 @@
--- `host::elements::laid_out` meets its contract: case by case of the answer.
+-- `parts::elements::laid_out` meets its contract: case by case of the answer.
 use mir.Syntax.{w16}
 use Rattle.host.specs.LaidOut.{elementOut}
 use Rattle.host.proofs.Signs.{passed}
 use borrow.Author.Needs.{needs}
-use Rattle.host.proofs.elements.laid_out.Statement.{statement}
-use Rattle.host.proofs.elements.laid_out.Tie as tie
+use Rattle.parts.proofs.elements.laid_out.Statement.{statement}
+use Rattle.parts.proofs.elements.laid_out.Tie as tie
 
 returns : tie.Need-returns
 unfolding elementOut

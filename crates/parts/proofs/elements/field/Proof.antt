@@ -1,10 +1,10 @@
--- `host::elements::field` meets its contract: its numbers' bits are laid out.
+-- `parts::elements::field` meets its contract: its numbers' bits are laid out.
 use mathlib.Core.Path.{refl}
 use mir.Syntax.{w16, w32}
 use Rattle.host.proofs.Signs.{passed}
 use borrow.Author.Needs.{needs}
-use Rattle.host.proofs.elements.field.Statement.{statement}
-use Rattle.host.proofs.elements.field.Tie as tie
+use Rattle.parts.proofs.elements.field.Statement.{statement}
+use Rattle.parts.proofs.elements.field.Tie as tie
 
 returns : tie.Need-returns
 returns c =

@@ -1,8 +1,8 @@
--- `host::reading::row_numbers` meets its contract: case by case of the answer.
-use Rattle.host.specs.Reads.{rowOut}
+-- `parts::reading::row_numbers` meets its contract: case by case of the answer.
+use Rattle.parts.specs.Reads.{rowOut}
 use borrow.Author.Needs.{needs}
-use Rattle.host.proofs.reading.row_numbers.Statement.{statement}
-use Rattle.host.proofs.reading.row_numbers.Tie as tie
+use Rattle.parts.proofs.reading.row_numbers.Statement.{statement}
+use Rattle.parts.proofs.reading.row_numbers.Tie as tie
 
 returns : tie.Need-returns
 unfolding rowOut

@@ -6,18 +6,31 @@ use mathlib.Core.Path.{_≡_}
 use lib.IntN.{ℤ}
 use lib.ListN.{length}
 use Rattle.protocol.specs.declared.Span.{Span}
+use Rattle.protocol.specs.declared.data.FieldDescription.{FieldDescription}
 use Rattle.protocol.specs.Decode.{decodeOf}
+use Rattle.protocol.specs.Each.{Each}
+use Rattle.protocol.specs.Fields.{AtomSlot}
+use Rattle.protocol.specs.Kinds.{errorField}
 use Rattle.protocol.specs.Reading.{Read, got, bad}
 use Rattle.reader.specs.Row.{lengthsOf, over, placesIn, rowBy, startsOf}
 use Rattle.reader.specs.declared.row.Row.the-variants as R
 use Rattle.reader.specs.declared.row.Row.{Row}
-use Rattle.host.specs.LaidOut.{list, needMoreOut, recordOut, refusedOut, span}
+use Rattle.host.specs.LaidOut.{fieldNumbers, list, needMoreOut, recordOut, refusedOut, span}
 
 -- a value as an element is, with the next place for the bytes consumed
 unfoldable pub valueOut : Read (Option Span) → List ℕ
 valueOut (got none next) = recordOut next (3 ∷ [])
 valueOut (got (some s) next) = recordOut next (4 ∷ span s)
 valueOut (bad number place) = refusedOut 16 number place
+
+-- a row's field and an error's, likewise
+unfoldable pub fieldOut : Read FieldDescription → List ℕ
+fieldOut (got d next) = recordOut next (5 ∷ fieldNumbers d)
+fieldOut (bad number place) = refusedOut 16 number place
+
+unfoldable pub errorFieldOut : Read (Each AtomSlot (errorField .atoms)) → List ℕ
+errorFieldOut (got (c, (s, tt)) next) = recordOut next (6 ∷ c ∷ span s)
+errorFieldOut (bad number place) = refusedOut 16 number place
 
 -- a row as a record of its kind
 unfoldable pub rowOut : Row → List ℕ

@@ -1,9 +1,9 @@
--- `host::elements::half` meets its contract: a narrow number's bits are those of the wider one.
+-- `parts::elements::half` meets its contract: a narrow number's bits are those of the wider one.
 use mir.Syntax.{w16}
 use Rattle.host.proofs.Signs.{widens, wide-bits-of}
 use borrow.Author.Needs.{needs}
-use Rattle.host.proofs.elements.half.Statement.{statement}
-use Rattle.host.proofs.elements.half.Tie as tie
+use Rattle.parts.proofs.elements.half.Statement.{statement}
+use Rattle.parts.proofs.elements.half.Tie as tie
 
 cast-bits : tie.Need-cast-bits
 cast-bits c = widens w16 (c .args .x) tt (c .fits .x)

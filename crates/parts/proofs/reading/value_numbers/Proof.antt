@@ -1,8 +1,8 @@
--- `host::reading::value_numbers` meets its contract: case by case of the answer.
-use Rattle.host.specs.Reads.{valueOut}
+-- `parts::reading::value_numbers` meets its contract: case by case of the answer.
+use Rattle.parts.specs.Reads.{valueOut}
 use borrow.Author.Needs.{needs}
-use Rattle.host.proofs.reading.value_numbers.Statement.{statement}
-use Rattle.host.proofs.reading.value_numbers.Tie as tie
+use Rattle.parts.proofs.reading.value_numbers.Statement.{statement}
+use Rattle.parts.proofs.reading.value_numbers.Tie as tie
 
 returns : tie.Need-returns
 unfolding valueOut

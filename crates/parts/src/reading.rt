@@ -2,9 +2,9 @@
 ghost use mathlib.Core.Path.{_≡_};
 ghost use Rattle.protocol.specs.Reading.{readValue};
 ghost use Rattle.codec.specs.Answers.{valueRead};
-ghost use Rattle.host.specs.Reads.{LaysRow, rowOut, valueOut};
-use crate::rows;
+ghost use Rattle.parts.specs.Reads.{LaysRow, rowOut, valueOut};
 use codec::Value;
+use host::rows;
 use protocol::refusal::CUT;
 use protocol::refusal::NOT_ALLOWED;
 use reader::row::Row;

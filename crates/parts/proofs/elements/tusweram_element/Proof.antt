@@ -1,9 +1,9 @@
--- `host::elements::tusweram_element` meets its contract: what the element call answers, laid out.
+-- `parts::elements::tusweram_element` meets its contract: what the element call answers, laid out.
 use mathlib.Core.Path.{ap, _∙_}
 use Rattle.host.specs.LaidOut.{elementOut}
 use borrow.Author.Needs.{needs}
-use Rattle.host.proofs.elements.tusweram_element.Statement.{statement}
-use Rattle.host.proofs.elements.tusweram_element.Tie as tie
+use Rattle.parts.proofs.elements.tusweram_element.Statement.{statement}
+use Rattle.parts.proofs.elements.tusweram_element.Tie as tie
 
 returns : tie.Need-returns
 returns c = c .laid-out .ensures ∙ ap elementOut (c .before .element .ensures)

@@ -1,9 +1,9 @@
--- `host::reading::tusweram_data_row` meets its contract: what the reader answers, laid out.
+-- `parts::reading::tusweram_data_row` meets its contract: what the reader answers, laid out.
 use mathlib.Core.Path.{ap, _∙_}
-use Rattle.host.specs.Reads.{rowOut}
+use Rattle.parts.specs.Reads.{rowOut}
 use borrow.Author.Needs.{needs}
-use Rattle.host.proofs.reading.tusweram_data_row.Statement.{statement}
-use Rattle.host.proofs.reading.tusweram_data_row.Tie as tie
+use Rattle.parts.proofs.reading.tusweram_data_row.Statement.{statement}
+use Rattle.parts.proofs.reading.tusweram_data_row.Tie as tie
 
 returns : tie.Need-returns
 returns c =

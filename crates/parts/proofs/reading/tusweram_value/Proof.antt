@@ -1,9 +1,9 @@
--- `host::reading::tusweram_value` meets its contract: what the reader answers, laid out.
+-- `parts::reading::tusweram_value` meets its contract: what the reader answers, laid out.
 use mathlib.Core.Path.{ap, _∙_}
-use Rattle.host.specs.Reads.{valueOut}
+use Rattle.parts.specs.Reads.{valueOut}
 use borrow.Author.Needs.{needs}
-use Rattle.host.proofs.reading.tusweram_value.Statement.{statement}
-use Rattle.host.proofs.reading.tusweram_value.Tie as tie
+use Rattle.parts.proofs.reading.tusweram_value.Statement.{statement}
+use Rattle.parts.proofs.reading.tusweram_value.Tie as tie
 
 returns : tie.Need-returns
 returns c = c .value-numbers .ensures ∙ ap valueOut (c .before .value-from .ensures)
