@@ -10,6 +10,7 @@ fn main() {
         Some(folder) => PathBuf::from(folder),
         None => build(),
     };
+    let folder = folder.canonicalize().unwrap_or(folder);
     let archive = folder.join("libhost.a");
     assert!(archive.is_file(), "{} is not there", archive.display());
     println!("cargo:rerun-if-changed={}", archive.display());
@@ -19,14 +20,19 @@ fn main() {
 
 fn build() -> PathBuf {
     let arch = env::var("CARGO_CFG_TARGET_ARCH").unwrap_or_default();
-    assert!(arch == "x86_64", "rt staticlib makes an archive for x86-64, and this build is for {arch}: give --target x86_64-unknown-linux-gnu");
+    assert!(
+        arch == "x86_64",
+        "rt staticlib makes an archive for x86-64, and this build is for {arch}: give --target x86_64-unknown-linux-gnu"
+    );
     let here = env::var_os("CARGO_MANIFEST_DIR").expect("cargo says where the crate is");
     let root = Path::new(&here).join("../..");
     println!("cargo:rerun-if-changed={}", root.join("crates").display());
     let status = Command::new("rt").args(["staticlib", "host"]).current_dir(&root).status();
     match status {
         Ok(status) => assert!(status.success(), "rt staticlib host failed: {status}"),
-        Err(e) => panic!("the Rattle kit's command rt cannot be run ({e}): put it on PATH, or name a folder that has libhost.a in TUSWERAM_LIB"),
+        Err(e) => {
+            panic!("the Rattle kit's command rt cannot be run ({e}): put it on PATH, or name a folder that has libhost.a in TUSWERAM_LIB")
+        }
     }
     root.join("target/staticlib")
 }

@@ -101,15 +101,7 @@ pub fn value(frame: &[u8], at: usize) -> Row {
 pub fn data_row(buf: &[u8], starts: &mut [usize], lengths: &mut [i32]) -> Row {
     let mut out = [0; 16];
     unsafe {
-        tusweram_data_row(
-            buf.as_ptr(),
-            buf.len(),
-            starts.as_mut_ptr(),
-            starts.len(),
-            lengths.as_mut_ptr(),
-            lengths.len(),
-            out.as_mut_ptr(),
-        )
+        tusweram_data_row(buf.as_ptr(), buf.len(), starts.as_mut_ptr(), starts.len(), lengths.as_mut_ptr(), lengths.len(), out.as_mut_ptr())
     };
     out
 }
@@ -127,20 +119,7 @@ pub struct Plain<'a> {
 /// Writes a message of a kind with no list. The answer: the bytes written, or the largest number less the refusal's.
 pub fn encode(kind: usize, given: Plain<'_>, out: &mut [u8]) -> usize {
     let Plain { byte, first, second, one, two } = given;
-    unsafe {
-        tusweram_encode(
-            kind,
-            byte,
-            first,
-            second,
-            one.as_ptr(),
-            one.len(),
-            two.as_ptr(),
-            two.len(),
-            out.as_mut_ptr(),
-            out.len(),
-        )
-    }
+    unsafe { tusweram_encode(kind, byte, first, second, one.as_ptr(), one.len(), two.as_ptr(), two.len(), out.as_mut_ptr(), out.len()) }
 }
 
 /// What a message with lists is written from; which of these a kind has, [`crate::encode`] shows.
@@ -185,14 +164,5 @@ pub fn encode_lists(kind: usize, given: Lists<'_>, out: &mut [u8]) -> usize {
 
 /// Writes a RowDescription. The answer is as of [`encode`].
 pub fn encode_row_description(fields: &[FieldDescription], run: &[u8], out: &mut [u8]) -> usize {
-    unsafe {
-        tusweram_encode_row_description(
-            fields.as_ptr(),
-            fields.len(),
-            run.as_ptr(),
-            run.len(),
-            out.as_mut_ptr(),
-            out.len(),
-        )
-    }
+    unsafe { tusweram_encode_row_description(fields.as_ptr(), fields.len(), run.as_ptr(), run.len(), out.as_mut_ptr(), out.len()) }
 }

@@ -178,13 +178,21 @@ pub enum GssEncResponse {
 
 impl SslResponse {
     fn new(number: usize) -> Self {
-        if number == SslResponse::Accept as usize { SslResponse::Accept } else { SslResponse::Refuse }
+        if number == SslResponse::Accept as usize {
+            SslResponse::Accept
+        } else {
+            SslResponse::Refuse
+        }
     }
 }
 
 impl GssEncResponse {
     fn new(number: usize) -> Self {
-        if number == GssEncResponse::Accept as usize { GssEncResponse::Accept } else { GssEncResponse::Refuse }
+        if number == GssEncResponse::Accept as usize {
+            GssEncResponse::Accept
+        } else {
+            GssEncResponse::Refuse
+        }
     }
 }
 
@@ -193,11 +201,7 @@ impl<'a> Message<'a> {
     pub(crate) fn new(frame: &'a [u8], row: &Row) -> Option<Self> {
         let [_, _, _, _, number, a, b, c, d, e, f, g, h, i, j, _] = *row;
         let message = match number {
-            kind::PARSE => Message::Parse(Parse {
-                name: part(frame, a, b),
-                query: part(frame, c, d),
-                type_oids: Oids::new(frame, e, f),
-            }),
+            kind::PARSE => Message::Parse(Parse { name: part(frame, a, b), query: part(frame, c, d), type_oids: Oids::new(frame, e, f) }),
             kind::BIND => Message::Bind(Bind {
                 portal_name: part(frame, a, b),
                 statement_name: part(frame, c, d),
@@ -220,31 +224,24 @@ impl<'a> Message<'a> {
             kind::NO_DATA => Message::NoData,
             kind::EMPTY_QUERY_RESPONSE => Message::EmptyQueryResponse,
             kind::ROW_DESCRIPTION => Message::RowDescription(RowDescription { fields: Fields::new(frame, b) }),
-            kind::PARAMETER_DESCRIPTION => {
-                Message::ParameterDescription(ParameterDescription { types: Oids::new(frame, a, b) })
-            }
+            kind::PARAMETER_DESCRIPTION => Message::ParameterDescription(ParameterDescription { types: Oids::new(frame, a, b) }),
             kind::DATA_ROW => Message::DataRow(DataRow { data: Values::new(frame, a, b) }),
             kind::COMMAND_COMPLETE => Message::CommandComplete(CommandComplete { tag: part(frame, a, b) }),
             kind::READY_FOR_QUERY => Message::ReadyForQuery(ReadyForQuery { status: a as u8 }),
             kind::ERROR_RESPONSE => Message::ErrorResponse(ErrorResponse { fields: ErrorFields::new(frame, b) }),
             kind::NOTICE_RESPONSE => Message::NoticeResponse(NoticeResponse { fields: ErrorFields::new(frame, b) }),
-            kind::COPY_IN_RESPONSE => Message::CopyInResponse(CopyInResponse {
-                format: word(a) as i8,
-                column_formats: Formats::new(frame, b, c),
-            }),
-            kind::COPY_OUT_RESPONSE => Message::CopyOutResponse(CopyOutResponse {
-                format: word(a) as i8,
-                column_formats: Formats::new(frame, b, c),
-            }),
-            kind::COPY_BOTH_RESPONSE => Message::CopyBothResponse(CopyBothResponse {
-                format: word(a) as i8,
-                column_formats: Formats::new(frame, b, c),
-            }),
-            kind::NOTIFICATION_RESPONSE => Message::NotificationResponse(NotificationResponse {
-                pid: word(a),
-                channel: part(frame, b, c),
-                payload: part(frame, d, e),
-            }),
+            kind::COPY_IN_RESPONSE => {
+                Message::CopyInResponse(CopyInResponse { format: word(a) as i8, column_formats: Formats::new(frame, b, c) })
+            }
+            kind::COPY_OUT_RESPONSE => {
+                Message::CopyOutResponse(CopyOutResponse { format: word(a) as i8, column_formats: Formats::new(frame, b, c) })
+            }
+            kind::COPY_BOTH_RESPONSE => {
+                Message::CopyBothResponse(CopyBothResponse { format: word(a) as i8, column_formats: Formats::new(frame, b, c) })
+            }
+            kind::NOTIFICATION_RESPONSE => {
+                Message::NotificationResponse(NotificationResponse { pid: word(a), channel: part(frame, b, c), payload: part(frame, d, e) })
+            }
             kind::CANCEL_REQUEST => Message::CancelRequest(CancelRequest { pid: word(a), secret_key: word(b) }),
             kind::SSL_RESPONSE => Message::SslResponse(SslResponse::new(a)),
             kind::GSS_ENC_RESPONSE => Message::GssEncResponse(GssEncResponse::new(a)),

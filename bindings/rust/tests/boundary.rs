@@ -96,16 +96,8 @@ fn encode() {
 #[test]
 fn encode_lists() {
     let mut out = [1; 40];
-    let given = Lists {
-        format: -2,
-        one: b"C",
-        two: b"two",
-        joined: b"abc",
-        words: &[3],
-        lengths: &[1, -1, 2],
-        formats: &[-3],
-        results: &[4, 5],
-    };
+    let given =
+        Lists { format: -2, one: b"C", two: b"two", joined: b"abc", words: &[3], lengths: &[1, -1, 2], formats: &[-3], results: &[4, 5] };
     assert_eq!(ffi::encode_lists(1, given, &mut out), 17);
     assert_eq!(out[..18], *b"P\0\0\0\x10C\0two\0\0\x01\0\0\0\x03\x01");
     assert_eq!(ffi::encode_lists(2, given, &mut out), 38);
@@ -148,7 +140,9 @@ fn encode_row_description() {
     assert_eq!(ffi::encode_row_description(&[field], b"xay", &mut out), 27);
     assert_eq!(out, *b"T\0\0\0\x1a\0\x01a\0\0\0\0\x02\0\x03\0\0\0\x04\0\x05\xff\xff\xff\xff\0\x01\x01");
     // a name outside the run
-    for name in [Span { start: 3, len: 1 }, Span { start: 4, len: 0 }, Span { start: usize::MAX, len: 1 }, Span { start: 1, len: usize::MAX }] {
+    for name in
+        [Span { start: 3, len: 1 }, Span { start: 4, len: 0 }, Span { start: usize::MAX, len: 1 }, Span { start: 1, len: usize::MAX }]
+    {
         let before = out;
         assert_eq!(ffi::encode_row_description(&[FieldDescription { name, ..field }], b"xay", &mut out), usize::MAX - 10);
         assert_eq!(out, before);

@@ -34,9 +34,7 @@ fn parse() {
 fn bind() {
     let frame = b"B\0\0\0\x23p\0st\0\0\x02\0\x01\xff\xff\0\x03\0\0\0\x02ab\xff\xff\xff\xff\0\0\0\0\0\x01\0\x01";
     let numbers = [2, 5, 1, 7, 2, 12, 2, 18, 3, 34, 1];
-    let m = kind(Mode::Frontend, &frame[..], &numbers, |out| {
-        encode::bind(b"p", b"st", &[1, -1], &[2, -1, 0], b"ab", &[1], out)
-    });
+    let m = kind(Mode::Frontend, &frame[..], &numbers, |out| encode::bind(b"p", b"st", &[1, -1], &[2, -1, 0], b"ab", &[1], out));
     let Message::Bind(m) = m else { panic!("{m:?}") };
     assert_eq!((m.portal_name, m.statement_name), (&b"p"[..], &b"st"[..]));
     assert!(m.parameter_format_codes.iter().eq([1, -1]));
@@ -135,24 +133,8 @@ fn row_description() {
     ];
     let m = kind(Mode::Backend, &frame, &[17, 7, 2], |out| encode::row_description(&fields, b"nid", out));
     let Message::RowDescription(m) = m else { panic!("{m:?}") };
-    let first = Field {
-        name: b"id",
-        table_id: i32::MIN,
-        column_id: 3,
-        type_id: 23,
-        type_size: 4,
-        type_modifier: -1,
-        format_code: 1,
-    };
-    let second = Field {
-        name: b"n",
-        table_id: 16385,
-        column_id: -2,
-        type_id: u32::MAX,
-        type_size: -1,
-        type_modifier: 14,
-        format_code: -1,
-    };
+    let first = Field { name: b"id", table_id: i32::MIN, column_id: 3, type_id: 23, type_size: 4, type_modifier: -1, format_code: 1 };
+    let second = Field { name: b"n", table_id: 16385, column_id: -2, type_id: u32::MAX, type_size: -1, type_modifier: 14, format_code: -1 };
     assert!(m.fields.iter().eq([first, second]));
     assert_eq!((m.fields.len(), m.fields.iter().len()), (2, 2));
     kind(Mode::Backend, b"T\0\0\0\x06\0\0", &[17, 7, 0], |out| encode::row_description(&[], b"", out));
@@ -194,9 +176,7 @@ fn ready_for_query() {
 
 #[test]
 fn errors_and_notices() {
-    let m = kind(Mode::Backend, b"E\0\0\0\x0eSbad\0Mno\0\0", &[22, 5, 2], |out| {
-        encode::error_response(b"SM", &[3, 2], b"badno", out)
-    });
+    let m = kind(Mode::Backend, b"E\0\0\0\x0eSbad\0Mno\0\0", &[22, 5, 2], |out| encode::error_response(b"SM", &[3, 2], b"badno", out));
     let Message::ErrorResponse(m) = m else { panic!("{m:?}") };
     let fields = [ErrorField { code: b'S', text: b"bad" }, ErrorField { code: b'M', text: b"no" }];
     assert!(m.fields.iter().eq(fields));
@@ -209,9 +189,7 @@ fn errors_and_notices() {
 
 #[test]
 fn copy_responses() {
-    let m = kind(Mode::Backend, b"G\0\0\0\x0b\x01\0\x02\0\x01\xff\xff", &[24, 1, 8, 2], |out| {
-        encode::copy_in_response(1, &[1, -1], out)
-    });
+    let m = kind(Mode::Backend, b"G\0\0\0\x0b\x01\0\x02\0\x01\xff\xff", &[24, 1, 8, 2], |out| encode::copy_in_response(1, &[1, -1], out));
     let Message::CopyInResponse(m) = m else { panic!("{m:?}") };
     assert_eq!(m.format, 1);
     assert!(m.column_formats.iter().eq([1, -1]));
@@ -220,9 +198,7 @@ fn copy_responses() {
     let Message::CopyOutResponse(m) = m else { panic!("{m:?}") };
     assert_eq!((m.format, m.column_formats.len()), (-1, 0));
     let numbers = [26, 4294967168, 8, 1];
-    let m = kind(Mode::Backend, b"W\0\0\0\x09\x80\0\x01\x01\x02", &numbers, |out| {
-        encode::copy_both_response(-128, &[258], out)
-    });
+    let m = kind(Mode::Backend, b"W\0\0\0\x09\x80\0\x01\x01\x02", &numbers, |out| encode::copy_both_response(-128, &[258], out));
     let Message::CopyBothResponse(m) = m else { panic!("{m:?}") };
     assert_eq!(m.format, -128);
     assert!(m.column_formats.iter().eq([258]));

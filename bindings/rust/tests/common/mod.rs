@@ -164,9 +164,7 @@ pub fn same_row(buf: &[u8], row: &DataRow) {
 /// One frame: it decodes, alone and with bytes behind it, each cut of it waits, and written again it is the same, in a buffer that is just long
 /// enough, too short, and longer.
 pub fn round_trip<'a>(mode: Mode, frame: &'a [u8]) -> Message<'a> {
-    let Decoded::Record(message, consumed) = decode(mode, frame) else {
-        panic!("{frame:x?} in {mode:?}: {:?}", decode(mode, frame))
-    };
+    let Decoded::Record(message, consumed) = decode(mode, frame) else { panic!("{frame:x?} in {mode:?}: {:?}", decode(mode, frame)) };
     assert_eq!(consumed, frame.len());
     let mut longer = frame.to_vec();
     longer.extend_from_slice(b"\0\xffD\x01");
