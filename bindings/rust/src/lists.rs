@@ -120,7 +120,7 @@ impl Elements<'_> {
     }
 
     fn left(&self) -> usize {
-        self.count - self.next
+        self.count.saturating_sub(self.next)
     }
 }
 

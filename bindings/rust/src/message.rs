@@ -52,6 +52,7 @@ pub enum Message<'a> {
     GssEncResponse(GssEncResponse),
 }
 
+/// A query to be prepared under a name, with the types of its parameters.
 #[derive(Clone, Copy, Debug, PartialEq, Eq)]
 pub struct Parse<'a> {
     pub name: &'a [u8],
@@ -59,6 +60,7 @@ pub struct Parse<'a> {
     pub type_oids: Oids<'a>,
 }
 
+/// Values for a prepared statement, which make a portal.
 #[derive(Clone, Copy, Debug, PartialEq, Eq)]
 pub struct Bind<'a> {
     pub portal_name: &'a [u8],
@@ -68,87 +70,103 @@ pub struct Bind<'a> {
     pub result_column_format_codes: Formats<'a>,
 }
 
+/// Closes a prepared statement or a portal.
 #[derive(Clone, Copy, Debug, PartialEq, Eq)]
 pub struct Close<'a> {
     pub target_type: u8,
     pub name: &'a [u8],
 }
 
+/// Asks for the description of a prepared statement or a portal.
 #[derive(Clone, Copy, Debug, PartialEq, Eq)]
 pub struct Describe<'a> {
     pub target_type: u8,
     pub name: &'a [u8],
 }
 
+/// Runs a portal; `max_rows` of 0 is all rows.
 #[derive(Clone, Copy, Debug, PartialEq, Eq)]
 pub struct Execute<'a> {
     pub name: &'a [u8],
     pub max_rows: i32,
 }
 
+/// A piece of a copy, from either side.
 #[derive(Clone, Copy, Debug, PartialEq, Eq)]
 pub struct CopyData<'a> {
     pub data: &'a [u8],
 }
 
+/// Ends a copy from the client with an error.
 #[derive(Clone, Copy, Debug, PartialEq, Eq)]
 pub struct CopyFail<'a> {
     pub message: &'a [u8],
 }
 
+/// The columns of the rows that follow.
 #[derive(Clone, Copy, Debug, PartialEq, Eq)]
 pub struct RowDescription<'a> {
     pub fields: Fields<'a>,
 }
 
+/// The types of a prepared statement's parameters.
 #[derive(Clone, Copy, Debug, PartialEq, Eq)]
 pub struct ParameterDescription<'a> {
     pub types: Oids<'a>,
 }
 
+/// One row.
 #[derive(Clone, Copy, Debug, PartialEq, Eq)]
 pub struct DataRow<'a> {
     pub data: Values<'a>,
 }
 
+/// A command has ended; the tag names it, as `SELECT 1`.
 #[derive(Clone, Copy, Debug, PartialEq, Eq)]
 pub struct CommandComplete<'a> {
     pub tag: &'a [u8],
 }
 
+/// The server waits for the next query.
 #[derive(Clone, Copy, Debug, PartialEq, Eq)]
 pub struct ReadyForQuery {
     pub status: u8,
 }
 
+/// An error.
 #[derive(Clone, Copy, Debug, PartialEq, Eq)]
 pub struct ErrorResponse<'a> {
     pub fields: ErrorFields<'a>,
 }
 
+/// A notice.
 #[derive(Clone, Copy, Debug, PartialEq, Eq)]
 pub struct NoticeResponse<'a> {
     pub fields: ErrorFields<'a>,
 }
 
+/// The server takes a copy from the client.
 #[derive(Clone, Copy, Debug, PartialEq, Eq)]
 pub struct CopyInResponse<'a> {
     pub format: i8,
     pub column_formats: Formats<'a>,
 }
 
+/// The server sends a copy to the client.
 #[derive(Clone, Copy, Debug, PartialEq, Eq)]
 pub struct CopyOutResponse<'a> {
     pub format: i8,
     pub column_formats: Formats<'a>,
 }
 
+/// Both sides send copies, as in replication.
 #[derive(Clone, Copy, Debug, PartialEq, Eq)]
 pub struct CopyBothResponse<'a> {
     pub format: i8,
     pub column_formats: Formats<'a>,
 }
 
+/// A notification of another session.
 #[derive(Clone, Copy, Debug, PartialEq, Eq)]
 pub struct NotificationResponse<'a> {
     pub pid: i32,
@@ -156,6 +174,7 @@ pub struct NotificationResponse<'a> {
     pub payload: &'a [u8],
 }
 
+/// A request to cancel what another connection runs.
 #[derive(Clone, Copy, Debug, PartialEq, Eq)]
 pub struct CancelRequest {
     pub pid: i32,
