@@ -7,18 +7,22 @@ use std::process::Command;
 fn main() {
     println!("cargo:rerun-if-env-changed=TUSWERAM_LIB");
     let folder = match env::var_os("TUSWERAM_LIB") {
-        Some(folder) => PathBuf::from(folder),
-        None => build(),
+        Some(folder) => given(PathBuf::from(folder)),
+        None => built(),
     };
-    let folder = folder.canonicalize().unwrap_or(folder);
-    let archive = folder.join("libhost.a");
-    assert!(archive.is_file(), "{} is not there", archive.display());
-    println!("cargo:rerun-if-changed={}", archive.display());
     println!("cargo:rustc-link-search=native={}", folder.display());
     println!("cargo:rustc-link-lib=static=host");
 }
 
-fn build() -> PathBuf {
+fn given(folder: PathBuf) -> PathBuf {
+    let archive = folder.join("libhost.a");
+    assert!(archive.is_file(), "{} is not there; TUSWERAM_LIB names a folder by its whole path", archive.display());
+    println!("cargo:rerun-if-changed={}", archive.display());
+    folder
+}
+
+// Built again where a source has changed, and not where the archive is newer than this run, which it always is.
+fn built() -> PathBuf {
     let arch = env::var("CARGO_CFG_TARGET_ARCH").unwrap_or_default();
     assert!(
         arch == "x86_64",
