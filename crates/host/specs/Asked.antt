@@ -125,7 +125,12 @@ answerOf a out = answerNumber (encodedAs a (length out))
 abbrev pub leftOf : Option Asked → List ℕ → List ℕ
 leftOf a out = writtenAs a (encodedAs a (length out)) out
 
--- what a choice of an encoder promises of the answer, and of the output before and after
+-- what is promised of the answer, and of the output before and after: a choice of an encoder
 pub record Chosen (a : Option Asked) (out : List ℕ) (r : Encoded) (left : List ℕ) : Type 0 where
   pub answer : r ≡ encodedAs a (length out)
   pub output : left ≡ writtenAs a r out
+
+-- and an exported encoder
+pub record Answers (a : Option Asked) (out : List ℕ) (n : ℕ) (left : List ℕ) : Type 0 where
+  pub answer : n ≡ answerOf a out
+  pub output : left ≡ leftOf a out

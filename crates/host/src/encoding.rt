@@ -1,13 +1,14 @@
 // Encoding, for a host: one call for the kinds without a list, one for those with a list of numbers, values or strings, and one for a row's
 // description. A kind is told by its number; an encoder's answer is one number.
 ghost use mathlib.Core.Path.{_≡_};
-ghost use Rattle.host.specs.Asked.{Chosen, answerNumber, answerOf, asked, askedIn, askedLists, bareRows, gssRows, leftOf, sslRows};
+ghost use Rattle.host.specs.Asked.{Answers, Chosen, answerNumber, asked, askedIn, askedLists, askedRow, bareRows, gssRows, sslRows};
 use encode::cancel;
 use encode::copy;
 use encode::data;
 use encode::extendedquery;
 use encode::response;
 use protocol::Encoded;
+use protocol::data::FieldDescription;
 use protocol::refusal::TYPE_UNKNOWN;
 use protocol::response::GssEncResponse;
 use protocol::response::SslResponse;
@@ -98,7 +99,7 @@ pub extern "C" fn tusweram_encode(
     two: &[u8],
     out: &mut [u8],
 ) -> usize
-    ensures { λ r. ⌜ (r ≡ answerOf (asked kind byte first second (now (one .entry)) (now (two .entry))) (now (out .entry))) × (now (out .exit) ≡ leftOf (asked kind byte first second (now (one .entry)) (now (two .entry))) (now (out .entry))) ⌝ }
+    ensures { λ r. ⌜ Answers (asked kind byte first second (now (one .entry)) (now (two .entry))) (now (out .entry)) r (now (out .exit)) ⌝ }
 {
     answer_number(plain(kind, byte, first, second, one, two, out))
 }
@@ -146,7 +147,7 @@ pub extern "C" fn tusweram_encode_lists(
     results: &[i16],
     out: &mut [u8],
 ) -> usize
-    ensures { λ r. ⌜ (r ≡ answerOf (askedLists kind format (now (one .entry)) (now (two .entry)) (now (joined .entry)) (now (words .entry)) (now (lengths .entry)) (now (formats .entry)) (now (results .entry))) (now (out .entry))) × (now (out .exit) ≡ leftOf (askedLists kind format (now (one .entry)) (now (two .entry)) (now (joined .entry)) (now (words .entry)) (now (lengths .entry)) (now (formats .entry)) (now (results .entry))) (now (out .entry))) ⌝ }
+    ensures { λ r. ⌜ Answers (askedLists kind format (now (one .entry)) (now (two .entry)) (now (joined .entry)) (now (words .entry)) (now (lengths .entry)) (now (formats .entry)) (now (results .entry))) (now (out .entry)) r (now (out .exit)) ⌝ }
 {
     let r = listed(
         kind,
@@ -161,4 +162,16 @@ pub extern "C" fn tusweram_encode_lists(
         out,
     );
     answer_number(r)
+}
+
+// A row's description, from a lent slice of fields, each with its column's name in the run.
+#[no_mangle]
+pub extern "C" fn tusweram_encode_row_description(
+    fields: &[FieldDescription],
+    run: &[u8],
+    out: &mut [u8],
+) -> usize
+    ensures { λ r. ⌜ Answers (askedRow (now (fields .entry)) (now (run .entry))) (now (out .entry)) r (now (out .exit)) ⌝ }
+{
+    answer_number(data::row_description(fields, run, out))
 }

@@ -34,6 +34,7 @@ use Rattle.codec.specs.declared.Value.the-variants as Va
 use Rattle.codec.specs.declared.Value.{Value}
 use Rattle.codec.specs.declared.Word.the-variants as W
 use Rattle.codec.specs.declared.Word.{Word}
+use Rattle.host.specs.Asked.{Asked, Answers}
 use Rattle.items.specs.Answers.{errorRead, fieldRead}
 use Rattle.items.specs.declared.data.FieldStep.the-variants as F
 use Rattle.items.specs.declared.data.FieldStep.{FieldStep}
@@ -178,6 +179,9 @@ row-one {s} {starts₀} {x} {y} {lengths₀} p q =
     let same = p .answer ∙ sym (q .answer) in
     (same, p .starts ∙ ap (λ (z : Row). over (startsOf (placesIn z s)) starts₀) same ∙ sym (q .starts), p .lengths ∙ ap (λ (z : Row). over (lengthsOf (placesIn z s)) lengths₀) same ∙ sym (q .lengths))
 
+answers-one : {a : Option Asked} {out x y : List ℕ} {r s : ℕ} → Answers a out r x → Answers a out s y → (r ≡ s) × (x ≡ y)
+answers-one p q = (p .answer ∙ sym (q .answer), p .output ∙ sym (q .output))
+
 reader-one : {r s : FrameReader} → r .frame ≡ s .frame → r .at ≡ s .at → r ≡ s
 reader-one a b = λ j. record { frame = a j; at = b j }
 
@@ -295,6 +299,11 @@ host = record {
   bits = λ _ r s p q. p ∙ sym q;
   «tusweram_decode» = λ _ _ _ r s p q. p ∙ sym q;
   «tusweram_element» = λ _ _ _ _ _ r s p q. p ∙ sym q;
+  «tusweram_encode» = λ _ _ _ _ _ _ _ r s x y p q. answers-one p q;
+  «tusweram_encode_lists» = λ _ _ _ _ _ _ _ _ _ _ r s x y p q. answers-one p q;
+  «tusweram_encode_row_description» = λ _ _ _ r s x y p q. answers-one p q;
+  «tusweram_value» = λ _ _ _ r s p q. p ∙ sym q;
+  «tusweram_data_row» = λ _ _ _ _ r s x y u v p q. (p .answer ∙ sym (q .answer), p .starts ∙ sym (q .starts), p .lengths ∙ sym (q .lengths));
   «need_more» = λ r s p q. p ∙ sym q;
   refused = λ _ _ r s p q. p ∙ sym q;
   none = λ _ _ r s p q. p ∙ sym q;

@@ -15,6 +15,8 @@ pub const FORMAT_CODE_TEXT: i16 = 0;
 pub const FORMAT_CODE_BINARY: i16 = 1;
 
 // One field of a RowDescription. Decoded, its name stands in the frame; for encoding, in the lent run of name bytes.
+// A host lends a slice of them, so their layout, and their names', is C's.
+#[repr(C)]
 pub struct FieldDescription {
     pub name: Span,
     pub table_id: i32,

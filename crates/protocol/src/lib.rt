@@ -32,6 +32,7 @@ use response::SslResponse;
 
 // A string, a value or a rest: its first byte, counted from the frame's first, and its length. A string's zero byte and a
 // value's length word are not part of it.
+#[repr(C)]
 pub struct Span {
     pub start: usize,
     pub len: usize,

@@ -9,17 +9,26 @@ use Rattle.protocol.specs.Elements.{elementOf}
 use Rattle.protocol.specs.declared.List.{List as Slot}
 use Rattle.protocol.specs.declared.Span.{Span}
 use Rattle.protocol.specs.declared.cancel.CancelRequest.{CancelRequest}
+use Rattle.protocol.specs.declared.data.FieldDescription.{FieldDescription}
 use Rattle.protocol.specs.declared.extendedquery.Bind.{Bind}
 use Rattle.protocol.specs.declared.extendedquery.Execute.{Execute}
 use Rattle.protocol.specs.declared.extendedquery.Parse.{Parse}
 use Rattle.protocol.specs.declared.response.NotificationResponse.{NotificationResponse}
+use Rattle.protocol.specs.Reading.{readValue}
+use Rattle.host.specs.Asked.{Answers, asked, askedLists, askedRow}
 use Rattle.host.specs.LaidOut.{bindNumbers, elementOut, laidOut, list, needMoreOut, recordOut, refusedOut, signed, span}
-use Rattle.laws.specs.Tight.{Determines}
+use Rattle.host.specs.Reads.{LaysRow, valueOut}
+use Rattle.laws.specs.Tight.{Determines, DeterminesAll, DeterminesBoth}
 
 pub record HostTight : Type 0 where
   pub bits : (x : ℤ) → Determines (λ (r : ℕ). r ≡ bitsOf 4 x)
   pub «tusweram_decode» : (mode : ℕ) (buf : List ℕ) (out : List ℕ) → Determines (λ (out′ : List ℕ). out′ ≡ laidOut (decodeOf (record { mode = mode }) buf))
   pub «tusweram_element» : (mode : ℕ) (buf : List ℕ) (list : ℕ) (number : ℕ) (out : List ℕ) → Determines (λ (out′ : List ℕ). out′ ≡ elementOut (elementOf (record { mode = mode }) buf list number))
+  pub «tusweram_encode» : (kind byte : ℕ) (first second : ℤ) (one two out : List ℕ) → DeterminesBoth (λ (r : ℕ) (out′ : List ℕ). Answers (asked kind byte first second one two) out r out′)
+  pub «tusweram_encode_lists» : (kind : ℕ) (format : ℤ) (one two joined words : List ℕ) (lengths formats results : List ℤ) (out : List ℕ) → DeterminesBoth (λ (r : ℕ) (out′ : List ℕ). Answers (askedLists kind format one two joined words lengths formats results) out r out′)
+  pub «tusweram_encode_row_description» : (fields : List FieldDescription) (run out : List ℕ) → DeterminesBoth (λ (r : ℕ) (out′ : List ℕ). Answers (askedRow fields run) out r out′)
+  pub «tusweram_value» : (frame : List ℕ) (at : ℕ) (out : List ℕ) → Determines (λ (out′ : List ℕ). out′ ≡ valueOut (readValue frame at))
+  pub «tusweram_data_row» : (buf starts : List ℕ) (lengths : List ℤ) (out : List ℕ) → DeterminesAll (λ (out′ starts′ : List ℕ) (lengths′ : List ℤ). LaysRow buf starts lengths starts′ lengths′ out′)
   pub «need_more» : Determines (λ (r : List ℕ). r ≡ needMoreOut 16)
   pub refused : (number : ℕ) (place : ℕ) → Determines (λ (r : List ℕ). r ≡ refusedOut 16 number place)
   pub none : (kind : ℕ) (n : ℕ) → Determines (λ (r : List ℕ). r ≡ recordOut n (kind ∷ []))
