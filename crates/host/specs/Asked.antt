@@ -1,8 +1,10 @@
 -- What a call of an encoder asks for, by the kind's number as in LaidOut's numbersOf; the number that is answered, and what the output then holds.
 use Prim.Native.Nat.{ℕ, _-_}
+use mathlib.Core.Bool.{cond}
 use mathlib.Core.List.{List, [], _∷_, _++_}
 use mathlib.Core.Option.{Option, some, none}
 use mathlib.Core.Path.{_≡_}
+use lib.Dec.{ltb}
 use lib.IntN.{ℤ}
 use lib.ListN.{length}
 use Rattle.protocol.specs.declared.Encoded.the-variants as N
@@ -118,6 +120,10 @@ writtenAs (some a) r out = writtenBy (a .mode) (a .kind) (a .given) r out
 abbrev pub answerNumber : Encoded → ℕ
 answerNumber (N.Done n) = n
 answerNumber (N.Refused number place) = 18446744073709551615 - number
+
+-- how a host reads that number: the last 256 numbers are refusals
+abbrev pub answerBy : ℕ → Encoded
+answerBy n = cond (ltb n 18446744073709551360) (N.Done n) (N.Refused (18446744073709551615 - n) 0)
 
 abbrev pub answerOf : Option Asked → List ℕ → ℕ
 answerOf a out = answerNumber (encodedAs a (length out))

@@ -2,7 +2,7 @@
 -- with zeros behind what an answer has. The first four are the same for every call:
 --   0: the status: 0 there is an answer, 1 need-more, 2 refused
 --   1, 2: the refusal's number and place, 0 where nothing is refused
---   3: the bytes consumed or written
+--   3: the bytes consumed; of a value, the place after it
 -- A signed number is laid out as its 32 bits in two's complement.
 use Prim.Native.Nat.{ℕ, zero, suc}
 use mathlib.Core.List.{List, [], _∷_, _++_}

@@ -1,5 +1,5 @@
-// The library at its boundary: what a host in C or Rust links. Numbers and byte slices go in, and an answer goes out as an array of numbers,
-// laid out by the definitions of specs/LaidOut.antt. No call asks for anything of its input.
+// The library at its boundary: what a host in C or Rust links. Numbers and slices go in; an answer goes out as one number, or as an array of
+// numbers, laid out by the definitions of specs/. No call asks for anything of its input.
 pub mod bits;
 pub mod decoding;
 pub mod elements;
