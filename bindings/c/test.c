@@ -1,0 +1,389 @@
+/* Each function of tusweram.h with known answers, worked out from document 01; NULL with length 0; numbers, places and lengths that reach past
+ * what is lent. Every buffer ends at the end of a page with nothing behind it, so a read or write past it stops the program. */
+#define _DEFAULT_SOURCE
+#include <stdarg.h>
+#include <stdio.h>
+#include <stdlib.h>
+#include <string.h>
+#include <sys/mman.h>
+#include <unistd.h>
+
+#include "tusweram.h"
+
+_Static_assert(sizeof(size_t) == 8, "the archive has numbers of 64 bits");
+_Static_assert(sizeof(struct tusweram_field) == 40, "the layout of a field");
+_Static_assert(offsetof(struct tusweram_field, type_id) == 24, "the layout of a field");
+_Static_assert(offsetof(struct tusweram_field, format_code) == 36, "the layout of a field");
+
+static int checks, wrong;
+
+#define CHECK(ok)                                                   \
+    do {                                                            \
+        checks++;                                                   \
+        if (!(ok)) {                                                \
+            wrong++;                                                \
+            printf("%s:%d: wrong: %s\n", __FILE__, __LINE__, #ok);  \
+        }                                                           \
+    } while (0)
+
+/* The bytes of a literal, without its zero byte. */
+#define BYTES(text) ((const uint8_t *)(text)), (sizeof(text) - 1)
+#define NONE NULL, 0
+
+/* ---- buffers that end where the memory ends */
+
+enum { PAGES = 4 };
+
+/* The end of fresh pages, before one that cannot be touched. */
+static uint8_t *edge(void) {
+    size_t page = (size_t)sysconf(_SC_PAGESIZE);
+    uint8_t *at = mmap(NULL, (PAGES + 1) * page, PROT_READ | PROT_WRITE, MAP_PRIVATE | MAP_ANONYMOUS, -1, 0);
+    if (at == MAP_FAILED || mprotect(at + PAGES * page, page, PROT_NONE) != 0) {
+        printf("no pages\n");
+        exit(1);
+    }
+    return at + PAGES * page;
+}
+
+static uint8_t *input_edge, *output_edge, *numbers_edge;
+
+static const uint8_t *lent(const uint8_t *bytes, size_t n) {
+    if (n != 0) memcpy(input_edge - n, bytes, n);
+    return input_edge - n;
+}
+
+/* ---- reading */
+
+static size_t row[TUSWERAM_NUMBERS];
+
+static void stale(void) {
+    for (int i = 0; i < TUSWERAM_NUMBERS; i++) row[i] = 0xdeadbeef;
+}
+
+static void decode(uint8_t mode, const uint8_t *bytes, size_t n) {
+    stale();
+    tusweram_decode(mode, lent(bytes, n), n, row);
+}
+
+static void element(uint8_t mode, const uint8_t *bytes, size_t n, size_t list, size_t number) {
+    stale();
+    tusweram_element(mode, lent(bytes, n), n, list, number, row);
+}
+
+static void value(const uint8_t *bytes, size_t n, size_t at) {
+    stale();
+    tusweram_value(lent(bytes, n), n, at, row);
+}
+
+/* Are these the row's numbers, with zeros behind them? */
+static int is(int count, ...) {
+    va_list numbers;
+    va_start(numbers, count);
+    int same = 1;
+    for (int i = 0; i < TUSWERAM_NUMBERS; i++) same &= row[i] == (i < count ? va_arg(numbers, size_t) : 0);
+    va_end(numbers);
+    return same;
+}
+
+#define Z(n) ((size_t)(n))
+#define REFUSED(number, place) is(3, Z(2), Z(number), Z(place))
+#define NEED_MORE is(1, Z(1))
+
+#define ROW BYTES("D\0\0\0\x10\0\x02\0\0\0\x02" "ab\xff\xff\xff\xff")
+#define BIND BYTES("B\0\0\0\x15\0\0\0\x01\xff\xfe\0\x01\0\0\0\x01" "a\0\x01\0\x01")
+
+static void decoding(void) {
+    decode(1, ROW);
+    CHECK(is(7, Z(0), Z(0), Z(0), Z(17), Z(19), Z(7), Z(2)));
+    decode(0, BIND);
+    CHECK(is(15, Z(0), Z(0), Z(0), Z(22), Z(2), Z(5), Z(0), Z(6), Z(0), Z(9), Z(1), Z(13), Z(1), Z(20), Z(1)));
+    decode(0, BYTES("E\0\0\0\x09\0\xff\xff\xff\xfe"));
+    CHECK(is(8, Z(0), Z(0), Z(0), Z(10), Z(5), Z(5), Z(0), Z(4294967294)));
+    CHECK((int32_t)row[7] == -2);
+    decode(2, BYTES("\0\0\0\x10\x04\xd2\x16\x2e\0\0\0\x07\0\0\0\x09"));
+    CHECK(is(7, Z(0), Z(0), Z(0), Z(16), Z(28), Z(7), Z(9)));
+    decode(3, BYTES("N"));
+    CHECK(is(6, Z(0), Z(0), Z(0), Z(1), Z(29), Z(1)));
+    decode(4, BYTES("G"));
+    CHECK(is(5, Z(0), Z(0), Z(0), Z(1), Z(30)));
+    decode(1, BYTES("C\0\0\0\x06OK"));
+    CHECK(REFUSED(6, 5));
+    decode(0, BYTES("S\0\0\0\x05\0"));
+    CHECK(REFUSED(8, 5));
+    decode(255, ROW);
+    CHECK(REFUSED(1, 0));
+    for (int mode = 0; mode <= 4; mode++) {
+        stale();
+        tusweram_decode((uint8_t)mode, NONE, row);
+        CHECK(NEED_MORE);
+    }
+    /* every cut waits, with nothing behind it to read */
+    for (size_t n = 0; n < 17; n++) {
+        decode(1, (const uint8_t *)"D\0\0\0\x10\0\x02\0\0\0\x02" "ab\xff\xff\xff\xff", n);
+        CHECK(NEED_MORE);
+    }
+    /* every length word and byte behind the type byte: whatever the answer is, a frame that is taken is inside the buffer */
+    for (int type = 0; type < 256; type++) {
+        for (int length = 0; length < 16; length++) {
+            for (int fill = 0; fill < 256; fill += 51) {
+                uint8_t bytes[12];
+                memset(bytes, fill, sizeof bytes);
+                memcpy(bytes, (uint8_t[]){(uint8_t)type, 0, 0, 0, (uint8_t)length}, 5);
+                for (uint8_t mode = 0; mode < 2; mode++) {
+                    decode(mode, bytes, sizeof bytes);
+                    CHECK(row[0] <= 2 && row[3] <= sizeof bytes);
+                }
+            }
+        }
+    }
+}
+
+static void elements(void) {
+    element(0, BYTES("P\0\0\0\x0c\0\0\0\x01\xff\0\0\x02"), 0, 0);
+    CHECK(is(6, Z(0), Z(0), Z(0), Z(0), Z(1), Z(0xff000002)));
+    element(0, BIND, 0, 0);
+    CHECK(is(6, Z(0), Z(0), Z(0), Z(0), Z(2), Z(4294967294)));
+    element(1, ROW, 0, 1);
+    CHECK(is(5, Z(0), Z(0), Z(0), Z(0), Z(3)));
+    element(0, BIND, 1, 0);
+    CHECK(is(7, Z(0), Z(0), Z(0), Z(0), Z(4), Z(17), Z(1)));
+    element(1, BYTES("T\0\0\0\x1a\0\x01" "a\0\0\0\0\x02\0\x03\0\0\0\x04\0\x05\xff\xff\xff\xff\0\x01"), 0, 0);
+    CHECK(is(13, Z(0), Z(0), Z(0), Z(0), Z(5), Z(7), Z(1), Z(2), Z(3), Z(4), Z(5), Z(4294967295), Z(1)));
+    element(1, BYTES("E\0\0\0\x08Sx\0\0"), 0, 0);
+    CHECK(is(8, Z(0), Z(0), Z(0), Z(0), Z(6), Z(83), Z(6), Z(1)));
+    /* numbers and lists that are not there */
+    size_t past[] = {2, 3, 65536, SIZE_MAX / 4, SIZE_MAX / 4 + 1, SIZE_MAX - 1, SIZE_MAX};
+    for (size_t i = 0; i < sizeof past / sizeof *past; i++) {
+        element(1, ROW, 0, past[i]);
+        CHECK(REFUSED(11, 0));
+        element(1, ROW, past[i], 0);
+        CHECK(REFUSED(11, 0));
+        element(0, BIND, 1, past[i]);
+        CHECK(REFUSED(11, 0));
+        element(0, BIND, past[i] + 1, past[i]);
+        CHECK(REFUSED(11, 0));
+    }
+    stale();
+    tusweram_element(1, NONE, 0, 0, row);
+    CHECK(NEED_MORE);
+    element(9, ROW, 0, 0);
+    CHECK(REFUSED(1, 0));
+}
+
+static void values(void) {
+    value(ROW, 7);
+    CHECK(is(7, Z(0), Z(0), Z(0), Z(13), Z(4), Z(11), Z(2)));
+    value(ROW, 13);
+    CHECK(is(5, Z(0), Z(0), Z(0), Z(17), Z(3)));
+    value(BYTES("\0\0\0\0"), 0);
+    CHECK(is(6, Z(0), Z(0), Z(0), Z(4), Z(4), Z(4)));
+    value(BYTES("\xff\xff\xff\xfe"), 0);
+    CHECK(REFUSED(7, 0));
+    value(BYTES("\0\0\0\x02" "a"), 0);
+    CHECK(REFUSED(6, 0));
+    value(BYTES("\x7f\xff\xff\xff" "a"), 0);
+    CHECK(REFUSED(6, 0));
+    size_t past[] = {14, 16, 17, 18, SIZE_MAX / 2, SIZE_MAX - 4, SIZE_MAX - 3, SIZE_MAX};
+    for (size_t i = 0; i < sizeof past / sizeof *past; i++) {
+        value(ROW, past[i]);
+        CHECK(REFUSED(6, past[i]));
+        stale();
+        tusweram_value(NONE, past[i], row);
+        CHECK(REFUSED(6, past[i]));
+    }
+}
+
+static void rows(void) {
+    size_t starts[3] = {5, 5, 5};
+    int32_t lengths[3] = {6, 6, 6};
+    size_t n = 17;
+    const uint8_t *bytes = lent(ROW);
+    stale();
+    tusweram_data_row(bytes, n, NONE, NONE, row);
+    CHECK(REFUSED(9, 0));
+    tusweram_data_row(bytes, n, starts, 1, lengths, 3, row);
+    CHECK(REFUSED(9, 0));
+    tusweram_data_row(bytes, n, starts, 3, lengths, 1, row);
+    CHECK(REFUSED(9, 0));
+    tusweram_data_row(bytes, n - 1, starts, 3, lengths, 3, row);
+    CHECK(NEED_MORE);
+    tusweram_data_row(NONE, starts, 3, lengths, 3, row);
+    CHECK(NEED_MORE);
+    CHECK(starts[0] == 5 && starts[2] == 5 && lengths[0] == 6 && lengths[2] == 6);
+    tusweram_data_row(bytes, n, starts, 3, lengths, 3, row);
+    CHECK(is(7, Z(0), Z(0), Z(0), Z(17), Z(19), Z(7), Z(2)));
+    CHECK(starts[0] == 11 && starts[1] == 0 && starts[2] == 5);
+    CHECK(lengths[0] == 2 && lengths[1] == -1 && lengths[2] == 6);
+    /* slices of just the row's count, with nothing behind them */
+    size_t *just = (size_t *)(void *)output_edge - 2;
+    int32_t *long_ = (int32_t *)(void *)numbers_edge - 2;
+    tusweram_data_row(bytes, n, just, 2, long_, 2, row);
+    CHECK(row[0] == 0 && just[0] == 11 && long_[0] == 2 && long_[1] == -1);
+    bytes = lent(BYTES("D\0\0\0\x06\0\0"));
+    tusweram_data_row(bytes, 7, NONE, NONE, row);
+    CHECK(is(6, Z(0), Z(0), Z(0), Z(7), Z(19), Z(7)));
+    bytes = lent(BYTES("1\0\0\0\x04"));
+    tusweram_data_row(bytes, 5, NONE, NONE, row);
+    CHECK(REFUSED(11, 0));
+}
+
+/* ---- writing: an output of some length, filled with 0x55, that ends where the memory ends */
+
+static uint8_t *fresh(size_t n) {
+    memset(output_edge - n, 0x55, n);
+    return output_edge - n;
+}
+
+/* Is the answer the bytes' number, and do they stand at the output's start with the rest as it was? */
+static int wrote(size_t answer, const uint8_t *out, size_t out_len, const uint8_t *bytes, size_t n) {
+    if (answer != n || memcmp(out, bytes, n) != 0) return 0;
+    for (size_t i = n; i < out_len; i++)
+        if (out[i] != 0x55) return 0;
+    return 1;
+}
+
+/* Is the answer that refusal, and the output as it was? */
+static int refused(size_t answer, unsigned number, const uint8_t *out, size_t out_len) {
+    if (answer != SIZE_MAX - number || tusweram_refusal_of(answer) != number) return 0;
+    for (size_t i = 0; i < out_len; i++)
+        if (out[i] != 0x55) return 0;
+    return 1;
+}
+
+/* The same call with an output that is longer, just long enough, one byte too short, and none. */
+#define WRITES(call, ...)                                                                      \
+    do {                                                                                       \
+        static const uint8_t want[] = __VA_ARGS__;                                             \
+        size_t size = sizeof want - 1, longer[] = {size + 9, size, size - 1, 0};               \
+        for (int k = 0; k < 4; k++) {                                                          \
+            size_t out_len = longer[k];                                                        \
+            uint8_t *out = fresh(out_len);                                                     \
+            size_t answer = call;                                                              \
+            CHECK(k < 2 ? wrote(answer, out, out_len, want, size) : refused(answer, 9, out, out_len)); \
+        }                                                                                      \
+        uint8_t *out = NULL;                                                                   \
+        size_t out_len = 0;                                                                    \
+        CHECK(call == SIZE_MAX - 9);                                                           \
+    } while (0)
+
+#define REFUSES(number, call)                                \
+    do {                                                     \
+        size_t out_len = 64;                                 \
+        uint8_t *out = fresh(out_len);                       \
+        CHECK(refused(call, number, out, out_len));          \
+        out = NULL;                                          \
+        out_len = 0;                                         \
+        CHECK(call == SIZE_MAX - number);                    \
+    } while (0)
+
+static void encoding(void) {
+    WRITES(tusweram_encode(3, 'S', 0, 0, BYTES("ab"), NONE, out, out_len), "C\0\0\0\x08Sab\0");
+    WRITES(tusweram_encode(4, 'P', 0, 0, NONE, NONE, out, out_len), "D\0\0\0\x06P\0");
+    WRITES(tusweram_encode(5, 0, -2, 0, BYTES("p"), NONE, out, out_len), "E\0\0\0\x0ap\0\xff\xff\xff\xfe");
+    WRITES(tusweram_encode(6, 0, 0, 0, NONE, NONE, out, out_len), "H\0\0\0\x04");
+    WRITES(tusweram_encode(7, 0, 0, 0, NONE, NONE, out, out_len), "S\0\0\0\x04");
+    WRITES(tusweram_encode(8, 0, 0, 0, NONE, NONE, out, out_len), "c\0\0\0\x04");
+    WRITES(tusweram_encode(9, 0, 0, 0, BYTES("a\0b"), NONE, out, out_len), "d\0\0\0\x07" "a\0b");
+    WRITES(tusweram_encode(9, 0, 0, 0, NONE, NONE, out, out_len), "d\0\0\0\x04");
+    WRITES(tusweram_encode(10, 0, 0, 0, BYTES("no"), NONE, out, out_len), "f\0\0\0\x07no\0");
+    WRITES(tusweram_encode(11, 0, 0, 0, NONE, NONE, out, out_len), "1\0\0\0\x04");
+    WRITES(tusweram_encode(12, 0, 0, 0, NONE, NONE, out, out_len), "2\0\0\0\x04");
+    WRITES(tusweram_encode(13, 0, 0, 0, NONE, NONE, out, out_len), "3\0\0\0\x04");
+    WRITES(tusweram_encode(14, 0, 0, 0, NONE, NONE, out, out_len), "s\0\0\0\x04");
+    WRITES(tusweram_encode(15, 0, 0, 0, NONE, NONE, out, out_len), "n\0\0\0\x04");
+    WRITES(tusweram_encode(16, 0, 0, 0, NONE, NONE, out, out_len), "I\0\0\0\x04");
+    WRITES(tusweram_encode(20, 0, 0, 0, BYTES("OK"), NONE, out, out_len), "C\0\0\0\x07OK\0");
+    WRITES(tusweram_encode(21, 'T', 0, 0, NONE, NONE, out, out_len), "Z\0\0\0\x05T");
+    WRITES(tusweram_encode(27, 0, 7, 0, BYTES("c"), BYTES("pq"), out, out_len), "A\0\0\0\x0d\0\0\0\x07" "c\0pq\0");
+    WRITES(tusweram_encode(28, 0, 7, INT32_MIN, NONE, NONE, out, out_len), "\0\0\0\x10\x04\xd2\x16\x2e\0\0\0\x07\x80\0\0\0");
+    WRITES(tusweram_encode(29, 0, 0, 0, NONE, NONE, out, out_len), "S");
+    WRITES(tusweram_encode(29, 1, 0, 0, NONE, NONE, out, out_len), "N");
+    WRITES(tusweram_encode(30, 0, 0, 0, NONE, NONE, out, out_len), "G");
+    WRITES(tusweram_encode(30, 1, 0, 0, NONE, NONE, out, out_len), "N");
+    size_t others[] = {0, 1, 2, 17, 18, 19, 22, 23, 24, 25, 26, 31, 256 + 7, SIZE_MAX};
+    for (size_t i = 0; i < sizeof others / sizeof *others; i++)
+        REFUSES(2, tusweram_encode(others[i], 'S', 0, 0, NONE, NONE, out, out_len));
+    REFUSES(2, tusweram_encode(29, 2, 0, 0, NONE, NONE, out, out_len));
+    REFUSES(2, tusweram_encode(30, 255, 0, 0, NONE, NONE, out, out_len));
+    REFUSES(10, tusweram_encode(3, 'X', 0, 0, NONE, NONE, out, out_len));
+    REFUSES(10, tusweram_encode(21, 0, 0, 0, NONE, NONE, out, out_len));
+    REFUSES(10, tusweram_encode(20, 0, 0, 0, BYTES("a\0"), NONE, out, out_len));
+    static uint8_t much[8192];
+    memset(much, 'a', sizeof much);
+    REFUSES(4, tusweram_encode(20, 0, 0, 0, much, sizeof much, NONE, out, out_len));
+}
+
+/* A call of tusweram_encode_lists, by the slices that a kind has. */
+static size_t lists(size_t kind, int8_t format, const uint8_t *one, size_t one_len, const uint8_t *two, size_t two_len, const uint8_t *joined,
+                    size_t joined_len, uint8_t *out, size_t out_len, const uint32_t *words, size_t words_len, const int32_t *lengths,
+                    size_t lengths_len, const int16_t *formats, size_t formats_len, const int16_t *results, size_t results_len) {
+    return tusweram_encode_lists(kind, format, one, one_len, two, two_len, joined, joined_len, words, words_len, lengths, lengths_len, formats,
+                                 formats_len, results, results_len, out, out_len);
+}
+
+static void encoding_lists(void) {
+    static const uint32_t oids[] = {23, 0xfffffffe}, three[] = {3, 0}, wide[] = {UINT32_MAX, 1};
+    static const int32_t given[] = {2, -1, 0}, below[] = {-2}, past[] = {INT32_MAX, INT32_MAX, 4};
+    static const int16_t formats[] = {1, -1}, one[] = {1};
+    WRITES(lists(1, 0, BYTES("n"), BYTES("q"), NONE, out, out_len, oids, 2, NONE, NONE, NONE),
+           "P\0\0\0\x12n\0q\0\0\x02\0\0\0\x17\xff\xff\xff\xfe");
+    WRITES(lists(1, 0, NONE, NONE, NONE, out, out_len, NONE, NONE, NONE, NONE), "P\0\0\0\x08\0\0\0\0");
+    WRITES(lists(2, 0, BYTES("p"), BYTES("st"), BYTES("ab"), out, out_len, NONE, given, 3, formats, 2, one, 1),
+           "B\0\0\0\x23p\0st\0\0\x02\0\x01\xff\xff\0\x03\0\0\0\x02" "ab\xff\xff\xff\xff\0\0\0\0\0\x01\0\x01");
+    WRITES(lists(2, 0, NONE, NONE, NONE, out, out_len, NONE, NONE, NONE, NONE), "B\0\0\0\x0c\0\0\0\0\0\0\0\0");
+    WRITES(lists(18, 0, NONE, NONE, NONE, out, out_len, oids, 2, NONE, NONE, NONE), "t\0\0\0\x0e\0\x02\0\0\0\x17\xff\xff\xff\xfe");
+    WRITES(lists(19, 0, NONE, NONE, BYTES("ab"), out, out_len, NONE, given, 3, NONE, NONE),
+           "D\0\0\0\x14\0\x03\0\0\0\x02" "ab\xff\xff\xff\xff\0\0\0\0");
+    WRITES(lists(22, 0, BYTES("SM"), NONE, BYTES("bad"), out, out_len, three, 2, NONE, NONE, NONE), "E\0\0\0\x0cSbad\0M\0\0");
+    WRITES(lists(23, 0, NONE, NONE, NONE, out, out_len, NONE, NONE, NONE, NONE), "N\0\0\0\x05\0");
+    WRITES(lists(24, 1, NONE, NONE, NONE, out, out_len, NONE, NONE, formats, 2, NONE), "G\0\0\0\x0b\x01\0\x02\0\x01\xff\xff");
+    WRITES(lists(25, -1, NONE, NONE, NONE, out, out_len, NONE, NONE, NONE, NONE), "H\0\0\0\x07\xff\0\0");
+    WRITES(lists(26, -128, NONE, NONE, NONE, out, out_len, NONE, NONE, one, 1, NONE), "W\0\0\0\x09\x80\0\x01\0\x01");
+    size_t others[] = {0, 3, 16, 17, 20, 21, 27, 30, 31, SIZE_MAX};
+    for (size_t i = 0; i < sizeof others / sizeof *others; i++)
+        REFUSES(2, lists(others[i], 0, NONE, NONE, NONE, out, out_len, NONE, NONE, NONE, NONE));
+    /* lengths that say more or less than is lent */
+    REFUSES(10, lists(19, 0, NONE, NONE, NONE, out, out_len, NONE, given, 3, NONE, NONE));
+    REFUSES(10, lists(19, 0, NONE, NONE, BYTES("a"), out, out_len, NONE, given, 3, NONE, NONE));
+    REFUSES(10, lists(19, 0, NONE, NONE, BYTES("abc"), out, out_len, NONE, given, 3, NONE, NONE));
+    REFUSES(10, lists(19, 0, NONE, NONE, BYTES("ab"), out, out_len, NONE, past, 3, NONE, NONE));
+    REFUSES(10, lists(2, 0, NONE, NONE, NONE, out, out_len, NONE, past, 3, NONE, NONE));
+    REFUSES(10, lists(19, 0, NONE, NONE, NONE, out, out_len, NONE, below, 1, NONE, NONE));
+    REFUSES(10, lists(22, 0, BYTES("SM"), NONE, NONE, out, out_len, wide, 2, NONE, NONE, NONE));
+    REFUSES(10, lists(22, 0, BYTES("SM"), NONE, NONE, out, out_len, NONE, NONE, NONE, NONE));
+    REFUSES(10, lists(22, 0, NONE, NONE, BYTES("bad"), out, out_len, three, 2, NONE, NONE, NONE));
+}
+
+static void encoding_row_description(void) {
+    struct tusweram_field field = {1, 1, 2, 3, 4, 5, -1, 1};
+    WRITES(tusweram_encode_row_description(&field, 1, BYTES("xay"), out, out_len),
+           "T\0\0\0\x1a\0\x01" "a\0\0\0\0\x02\0\x03\0\0\0\x04\0\x05\xff\xff\xff\xff\0\x01");
+    struct tusweram_field two[] = {{0, 2, INT32_MIN, -1, UINT32_MAX, -2, 7, -3}, {2, 0, 0, 0, 0, 0, 0, 0}};
+    WRITES(tusweram_encode_row_description(two, 2, BYTES("id"), out, out_len),
+           "T\0\0\0\x2e\0\x02id\0\x80\0\0\0\xff\xff\xff\xff\xff\xff\xff\xfe\0\0\0\x07\xff\xfd"
+           "\0\0\0\0\0\0\0\0\0\0\0\0\0\0\0\0\0\0\0");
+    WRITES(tusweram_encode_row_description(NONE, NONE, out, out_len), "T\0\0\0\x06\0\0");
+    /* names that reach outside the run, also by numbers whose sum is past the largest */
+    size_t outside[][2] = {{0, 4}, {3, 1}, {4, 0}, {SIZE_MAX, 0}, {SIZE_MAX, 1}, {1, SIZE_MAX}, {SIZE_MAX, SIZE_MAX}, {SIZE_MAX - 2, 3}};
+    for (size_t i = 0; i < sizeof outside / sizeof *outside; i++) {
+        field.name_start = outside[i][0];
+        field.name_len = outside[i][1];
+        REFUSES(10, tusweram_encode_row_description(&field, 1, BYTES("xay"), out, out_len));
+        REFUSES(10, tusweram_encode_row_description(&field, 1, NONE, out, out_len));
+    }
+}
+
+int main(void) {
+    input_edge = edge();
+    output_edge = edge();
+    numbers_edge = edge();
+    decoding();
+    elements();
+    values();
+    rows();
+    encoding();
+    encoding_lists();
+    encoding_row_description();
+    printf("%d checks, %d wrong\n", checks, wrong);
+    return wrong != 0;
+}

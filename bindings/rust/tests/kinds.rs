@@ -1,0 +1,254 @@
+//! Every kind: bytes by hand from document 01, the encoder that writes them, the message that they are, and the numbers at the boundary.
+
+mod common;
+
+use common::{cuts_wait, round_trip};
+use tusweram::*;
+
+/// `numbers` are those from the fifth on: the kind's number and its fields'.
+fn kind<'a>(mode: Mode, frame: &'a [u8], numbers: &[usize], write: impl Fn(&mut [u8]) -> Encoded) -> Message<'a> {
+    let mut row = [0; 16];
+    row[3] = frame.len();
+    row[4..4 + numbers.len()].copy_from_slice(numbers);
+    assert_eq!(ffi::decode(mode as u8, frame), row);
+    let mut out = [0x55; 128];
+    assert_eq!(write(&mut out), Ok(frame.len()));
+    assert_eq!(&out[..frame.len()], frame);
+    assert!(out[frame.len()..].iter().all(|byte| *byte == 0x55));
+    cuts_wait(mode, frame);
+    round_trip(mode, frame)
+}
+
+#[test]
+fn parse() {
+    let frame = b"P\0\0\0\x17n\0select\0\0\x02\0\0\0\x17\xff\xff\xff\xfe";
+    let numbers = [1, 5, 1, 7, 6, 16, 2];
+    let m = kind(Mode::Frontend, &frame[..], &numbers, |out| encode::parse(b"n", b"select", &[23, 4294967294], out));
+    let Message::Parse(m) = m else { panic!("{m:?}") };
+    assert_eq!((m.name, m.query), (&b"n"[..], &b"select"[..]));
+    assert!(m.type_oids.iter().eq([23, 4294967294]));
+    assert_eq!((m.type_oids.len(), m.type_oids.is_empty(), m.type_oids.iter().len()), (2, false, 2));
+}
+
+#[test]
+fn bind() {
+    let frame = b"B\0\0\0\x23p\0st\0\0\x02\0\x01\xff\xff\0\x03\0\0\0\x02ab\xff\xff\xff\xff\0\0\0\0\0\x01\0\x01";
+    let numbers = [2, 5, 1, 7, 2, 12, 2, 18, 3, 34, 1];
+    let m = kind(Mode::Frontend, &frame[..], &numbers, |out| encode::bind(b"p", b"st", &[1, -1], &[2, -1, 0], b"ab", &[1], out));
+    let Message::Bind(m) = m else { panic!("{m:?}") };
+    assert_eq!((m.portal_name, m.statement_name), (&b"p"[..], &b"st"[..]));
+    assert!(m.parameter_format_codes.iter().eq([1, -1]));
+    assert!(m.parameters.iter().eq([Some(&b"ab"[..]), None, Some(b"")]));
+    assert_eq!((m.parameters.len(), m.parameters.iter().len()), (3, 3));
+    assert!(m.result_column_format_codes.iter().eq([1]));
+}
+
+#[test]
+fn bind_of_one_null() {
+    let frame = b"B\0\0\0\x10\0\0\0\0\0\x01\xff\xff\xff\xff\0\0";
+    let numbers = [2, 5, 0, 6, 0, 9, 0, 11, 1, 17, 0];
+    let m = kind(Mode::Frontend, &frame[..], &numbers, |out| encode::bind(b"", b"", &[], &[-1], b"", &[], out));
+    let Message::Bind(m) = m else { panic!("{m:?}") };
+    assert!(m.parameters.iter().eq([None]));
+    assert!(m.parameter_format_codes.is_empty() && m.result_column_format_codes.is_empty());
+}
+
+#[test]
+fn close_and_describe() {
+    let m = kind(Mode::Frontend, b"C\0\0\0\x08Sab\0", &[3, 83, 6, 2], |out| encode::close(b'S', b"ab", out));
+    assert_eq!(m, Message::Close(Close { target_type: TARGET_TYPE_BYTE_STATEMENT, name: b"ab" }));
+    let m = kind(Mode::Frontend, b"D\0\0\0\x06P\0", &[4, 80, 6, 0], |out| encode::describe(b'P', b"", out));
+    assert_eq!(m, Message::Describe(Describe { target_type: TARGET_TYPE_BYTE_PORTAL, name: b"" }));
+}
+
+#[test]
+fn execute() {
+    let m = kind(Mode::Frontend, b"E\0\0\0\x0ap\0\0\0\x01\0", &[5, 5, 1, 256], |out| encode::execute(b"p", 256, out));
+    assert_eq!(m, Message::Execute(Execute { name: b"p", max_rows: 256 }));
+    let numbers = [5, 5, 0, 4294967294];
+    let m = kind(Mode::Frontend, b"E\0\0\0\x09\0\xff\xff\xff\xfe", &numbers, |out| encode::execute(b"", -2, out));
+    assert_eq!(m, Message::Execute(Execute { name: b"", max_rows: -2 }));
+}
+
+#[test]
+fn kinds_without_fields() {
+    type Writer = fn(&mut [u8]) -> Encoded;
+    let table: [(Mode, u8, usize, Writer, Message); 10] = [
+        (Mode::Frontend, b'H', 6, encode::flush, Message::Flush),
+        (Mode::Frontend, b'S', 7, encode::sync, Message::Sync),
+        (Mode::Frontend, b'c', 8, encode::copy_done, Message::CopyDone),
+        (Mode::Backend, b'c', 8, encode::copy_done, Message::CopyDone),
+        (Mode::Backend, b'1', 11, encode::parse_complete, Message::ParseComplete),
+        (Mode::Backend, b'2', 12, encode::bind_complete, Message::BindComplete),
+        (Mode::Backend, b'3', 13, encode::close_complete, Message::CloseComplete),
+        (Mode::Backend, b's', 14, encode::portal_suspended, Message::PortalSuspended),
+        (Mode::Backend, b'n', 15, encode::no_data, Message::NoData),
+        (Mode::Backend, b'I', 16, encode::empty_query_response, Message::EmptyQueryResponse),
+    ];
+    for (mode, byte, number, write, message) in table {
+        assert_eq!(kind(mode, &[byte, 0, 0, 0, 4], &[number], write), message);
+    }
+}
+
+#[test]
+fn copy_data() {
+    for mode in [Mode::Frontend, Mode::Backend] {
+        let m = kind(mode, b"d\0\0\0\x07a\0b", &[9, 5, 3], |out| encode::copy_data(b"a\0b", out));
+        assert_eq!(m, Message::CopyData(CopyData { data: b"a\0b" }));
+        let m = kind(mode, b"d\0\0\0\x04", &[9, 5, 0], |out| encode::copy_data(b"", out));
+        assert_eq!(m, Message::CopyData(CopyData { data: b"" }));
+    }
+}
+
+#[test]
+fn copy_fail() {
+    let m = kind(Mode::Frontend, b"f\0\0\0\x08why\0", &[10, 5, 3], |out| encode::copy_fail(b"why", out));
+    assert_eq!(m, Message::CopyFail(CopyFail { message: b"why" }));
+}
+
+#[test]
+fn row_description() {
+    let mut frame = b"T\0\0\0\x2f\0\x02id\0\x80\0\0\0\0\x03\0\0\0\x17\0\x04\xff\xff\xff\xff\0\x01".to_vec();
+    frame.extend_from_slice(b"n\0\0\0\x40\x01\xff\xfe\xff\xff\xff\xff\xff\xff\0\0\0\x0e\xff\xff");
+    // the names stand in any order in the run, and may share bytes
+    let fields = [
+        FieldDescription {
+            name: Span { start: 1, len: 2 },
+            table_id: i32::MIN,
+            column_id: 3,
+            type_id: 23,
+            type_size: 4,
+            type_modifier: -1,
+            format_code: 1,
+        },
+        FieldDescription {
+            name: Span { start: 0, len: 1 },
+            table_id: 16385,
+            column_id: -2,
+            type_id: u32::MAX,
+            type_size: -1,
+            type_modifier: 14,
+            format_code: -1,
+        },
+    ];
+    let m = kind(Mode::Backend, &frame, &[17, 7, 2], |out| encode::row_description(&fields, b"nid", out));
+    let Message::RowDescription(m) = m else { panic!("{m:?}") };
+    let first = Field { name: b"id", table_id: i32::MIN, column_id: 3, type_id: 23, type_size: 4, type_modifier: -1, format_code: 1 };
+    let second = Field { name: b"n", table_id: 16385, column_id: -2, type_id: u32::MAX, type_size: -1, type_modifier: 14, format_code: -1 };
+    assert!(m.fields.iter().eq([first, second]));
+    assert_eq!((m.fields.len(), m.fields.iter().len()), (2, 2));
+    kind(Mode::Backend, b"T\0\0\0\x06\0\0", &[17, 7, 0], |out| encode::row_description(&[], b"", out));
+}
+
+#[test]
+fn parameter_description() {
+    let frame = b"t\0\0\0\x0e\0\x02\0\0\0\x19\x80\0\0\0";
+    let m = kind(Mode::Backend, &frame[..], &[18, 7, 2], |out| encode::parameter_description(&[25, 2147483648], out));
+    let Message::ParameterDescription(m) = m else { panic!("{m:?}") };
+    assert!(m.types.iter().eq([25, 2147483648]));
+}
+
+#[test]
+fn a_data_row() {
+    let frame = b"D\0\0\0\x10\0\x02\0\0\0\x02ab\xff\xff\xff\xff";
+    let m = kind(Mode::Backend, &frame[..], &[19, 7, 2], |out| encode::data_row(&[2, -1], b"ab", out));
+    let Message::DataRow(m) = m else { panic!("{m:?}") };
+    assert!(m.data.iter().eq([Some(&b"ab"[..]), None]));
+    // a part of the caller's buffer itself
+    assert_eq!(m.data.iter().next().unwrap().unwrap().as_ptr(), frame[11..].as_ptr());
+    kind(Mode::Backend, b"D\0\0\0\x06\0\0", &[19, 7, 0], |out| encode::data_row(&[], b"", out));
+}
+
+#[test]
+fn command_complete() {
+    let m = kind(Mode::Backend, b"C\0\0\0\x0dSELECT 1\0", &[20, 5, 8], |out| encode::command_complete(b"SELECT 1", out));
+    assert_eq!(m, Message::CommandComplete(CommandComplete { tag: b"SELECT 1" }));
+}
+
+#[test]
+fn ready_for_query() {
+    for status in [READY_STATUS_IDLE, READY_STATUS_TRANSACTION_BLOCK, READY_STATUS_FAILED_TRANSACTION_BLOCK] {
+        let frame = [b'Z', 0, 0, 0, 5, status];
+        let m = kind(Mode::Backend, &frame, &[21, status as usize], |out| encode::ready_for_query(status, out));
+        assert_eq!(m, Message::ReadyForQuery(ReadyForQuery { status }));
+    }
+}
+
+#[test]
+fn errors_and_notices() {
+    let m = kind(Mode::Backend, b"E\0\0\0\x0eSbad\0Mno\0\0", &[22, 5, 2], |out| encode::error_response(b"SM", &[3, 2], b"badno", out));
+    let Message::ErrorResponse(m) = m else { panic!("{m:?}") };
+    let fields = [ErrorField { code: b'S', text: b"bad" }, ErrorField { code: b'M', text: b"no" }];
+    assert!(m.fields.iter().eq(fields));
+    assert_eq!((m.fields.text(b'M'), m.fields.text(b'D')), (Some(&b"no"[..]), None));
+    let m = kind(Mode::Backend, b"N\0\0\0\x07C\0\0", &[23, 5, 1], |out| encode::notice_response(b"C", &[0], b"", out));
+    let Message::NoticeResponse(m) = m else { panic!("{m:?}") };
+    assert!(m.fields.iter().eq([ErrorField { code: b'C', text: b"" }]));
+    kind(Mode::Backend, b"E\0\0\0\x05\0", &[22, 5, 0], |out| encode::error_response(b"", &[], b"", out));
+}
+
+#[test]
+fn copy_responses() {
+    let m = kind(Mode::Backend, b"G\0\0\0\x0b\x01\0\x02\0\x01\xff\xff", &[24, 1, 8, 2], |out| encode::copy_in_response(1, &[1, -1], out));
+    let Message::CopyInResponse(m) = m else { panic!("{m:?}") };
+    assert_eq!(m.format, 1);
+    assert!(m.column_formats.iter().eq([1, -1]));
+    let numbers = [25, 4294967295, 8, 0];
+    let m = kind(Mode::Backend, b"H\0\0\0\x07\xff\0\0", &numbers, |out| encode::copy_out_response(-1, &[], out));
+    let Message::CopyOutResponse(m) = m else { panic!("{m:?}") };
+    assert_eq!((m.format, m.column_formats.len()), (-1, 0));
+    let numbers = [26, 4294967168, 8, 1];
+    let m = kind(Mode::Backend, b"W\0\0\0\x09\x80\0\x01\x01\x02", &numbers, |out| encode::copy_both_response(-128, &[258], out));
+    let Message::CopyBothResponse(m) = m else { panic!("{m:?}") };
+    assert_eq!(m.format, -128);
+    assert!(m.column_formats.iter().eq([258]));
+}
+
+#[test]
+fn notification_response() {
+    let m = kind(Mode::Backend, b"A\0\0\0\x0d\xff\xff\xff\xf9c\0pq\0", &[27, 4294967289, 9, 1, 11, 2], |out| {
+        encode::notification_response(-7, b"c", b"pq", out)
+    });
+    assert_eq!(m, Message::NotificationResponse(NotificationResponse { pid: -7, channel: b"c", payload: b"pq" }));
+}
+
+#[test]
+fn cancel_request() {
+    let frame = b"\0\0\0\x10\x04\xd2\x16\x2e\0\0\0\x07\0\0\0\x09";
+    let m = kind(Mode::CancelRequest, &frame[..], &[28, 7, 9], |out| encode::cancel_request(7, 9, out));
+    assert_eq!(m, Message::CancelRequest(CancelRequest { pid: 7, secret_key: 9 }));
+    let frame = b"\0\0\0\x10\x04\xd2\x16\x2e\xff\xff\xff\xff\x80\0\0\0";
+    let numbers = [28, 4294967295, 2147483648];
+    let m = kind(Mode::CancelRequest, &frame[..], &numbers, |out| encode::cancel_request(-1, i32::MIN, out));
+    assert_eq!(m, Message::CancelRequest(CancelRequest { pid: -1, secret_key: i32::MIN }));
+}
+
+#[test]
+fn answers_of_one_byte() {
+    for (byte, number, answer) in [(b"S", 0, SslResponse::Accept), (b"N", 1, SslResponse::Refuse)] {
+        let m = kind(Mode::SslResponse, byte, &[29, number], |out| encode::ssl_response(answer, out));
+        assert_eq!(m, Message::SslResponse(answer));
+    }
+    for (byte, number, answer) in [(b"G", 0, GssEncResponse::Accept), (b"N", 1, GssEncResponse::Refuse)] {
+        let m = kind(Mode::GssEncResponse, byte, &[30, number], |out| encode::gss_enc_response(answer, out));
+        assert_eq!(m, Message::GssEncResponse(answer));
+    }
+}
+
+#[test]
+fn the_largest_frames() {
+    let mut frame = vec![b'x'; 1048577];
+    frame[..5].copy_from_slice(b"d\0\x10\0\0");
+    round_trip(Mode::Backend, &frame);
+    let mut frame = vec![b'x'; 8193];
+    frame[..5].copy_from_slice(b"C\0\0\x20\0");
+    frame[8192] = 0;
+    round_trip(Mode::Backend, &frame);
+    // as many values as a count can say
+    let lengths = [-1; 32767];
+    let mut out = vec![0; 131075];
+    assert_eq!(encode::data_row(&lengths, b"", &mut out), Ok(131075));
+    let Decoded::Record(Message::DataRow(row), 131075) = decode(Mode::Backend, &out) else { panic!() };
+    assert_eq!(row.data.iter().filter(|value| value.is_none()).count(), 32767);
+    common::same_row(&out, &row);
+}

@@ -1,0 +1,231 @@
+//! Every refusal, with its number and place, by document 01's table and its frames that show the edges.
+
+mod common;
+
+use common::hex;
+use tusweram::*;
+
+fn refused(mode: Mode, text: &str, number: u8, place: usize) {
+    let buf = hex(text);
+    let refusal = Refusal { number, place };
+    assert_eq!(decode(mode, &buf), Decoded::Refused(refusal), "{text}");
+    // decoding's own refusal comes first, whichever element is asked for
+    assert_eq!(element(mode, &buf, 0, 0), Element::Refused(refusal), "{text}");
+    assert_eq!(element(mode, &buf, 9, usize::MAX), Element::Refused(refusal), "{text}");
+    if mode == Mode::Backend {
+        assert_eq!(data_row(&buf, &mut [], &mut []), Row::Refused(refusal), "{text}");
+    }
+}
+
+fn waits(mode: Mode, text: &str) {
+    assert_eq!(decode(mode, &hex(text)), Decoded::NeedMore, "{text}");
+    assert_eq!(element(mode, &hex(text), 0, 0), Element::NeedMore, "{text}");
+}
+
+fn cannot(number: u8, encoded: Encoded) {
+    assert_eq!(encoded, Err(Refusal { number, place: 0 }));
+}
+
+#[test]
+fn refusal_1_mode_unknown() {
+    for number in 0..=4 {
+        assert_eq!(Mode::try_from(number).map(|mode| mode as u8), Ok(number));
+    }
+    for number in 5..=255 {
+        let refusal = Mode::try_from(number).unwrap_err();
+        assert_eq!((refusal.number, refusal.place), (1, 0));
+        assert_eq!(ffi::decode(number, b"")[..3], [2, 1, 0]);
+    }
+}
+
+#[test]
+fn refusal_2_type_unknown() {
+    refused(Mode::Backend, "53 00 00 00 04", 2, 0);
+    refused(Mode::Backend, "53", 2, 0);
+    refused(Mode::Frontend, "00", 2, 0);
+    refused(Mode::SslResponse, "45", 2, 0);
+    refused(Mode::SslResponse, "47", 2, 0);
+    refused(Mode::GssEncResponse, "53", 2, 0);
+    refused(Mode::CancelRequest, "00 00 00 10 04 D2 16 2F", 2, 4);
+    waits(Mode::CancelRequest, "00 00 00 10 04 D2 16");
+}
+
+#[test]
+fn refusal_3_length_too_small() {
+    refused(Mode::Frontend, "53 00 00 00 03", 3, 1);
+    refused(Mode::Frontend, "64 FF FF FF FF", 3, 1);
+    refused(Mode::Frontend, "42 00 00 00 0B", 3, 1);
+    refused(Mode::Backend, "54 00 00 00 05", 3, 1);
+    refused(Mode::CancelRequest, "00 00 00 0F 04 D2 16 2E", 3, 0);
+    waits(Mode::Frontend, "53 00 00 00");
+}
+
+#[test]
+fn refusal_4_length_above_limit() {
+    waits(Mode::Frontend, "45 00 00 20 00");
+    refused(Mode::Frontend, "45 00 00 20 01", 4, 1);
+    waits(Mode::Frontend, "50 00 10 00 00");
+    refused(Mode::Frontend, "50 00 10 00 01", 4, 1);
+    refused(Mode::Backend, "44 7F FF FF FF", 4, 1);
+    refused(Mode::CancelRequest, "00 00 20 01 04 D2 16 2E", 4, 0);
+    waits(Mode::CancelRequest, "00 00 20 00 04 D2 16 2E");
+    let out = &mut vec![0; 2000000][..];
+    let (small, large) = (&[b'a'; 8188][..], &vec![b'a'; 1048573][..]);
+    cannot(4, encode::copy_data(large, out));
+    cannot(4, encode::copy_fail(small, out));
+    cannot(4, encode::command_complete(small, out));
+    cannot(4, encode::execute(&small[4..], 0, &mut []));
+    cannot(4, encode::close(b'S', &small[1..], out));
+    cannot(4, encode::describe(b'P', &small[1..], out));
+    cannot(4, encode::parse(b"", large, &[], out));
+    cannot(4, encode::bind(b"", large, &[], &[], b"", &[], out));
+    cannot(4, encode::data_row(&[1048573], large, out));
+    cannot(4, encode::error_response(b"S", &[1048573], large, out));
+    cannot(4, encode::notice_response(b"S", &[1048573], large, out));
+    cannot(4, encode::notification_response(0, large, b"", out));
+    cannot(4, encode::copy_in_response(0, &[0; 4093], out));
+    cannot(4, encode::copy_out_response(0, &[0; 4093], out));
+    cannot(4, encode::copy_both_response(0, &[0; 4093], out));
+    let field = FieldDescription { name: Span { start: 0, len: 1048573 }, ..FieldDescription::default() };
+    cannot(4, encode::row_description(&[field], large, out));
+    assert!(out.iter().all(|byte| *byte == 0));
+}
+
+#[test]
+fn refusal_5_count() {
+    refused(Mode::Backend, "54 00 00 00 06 FF FF", 5, 5);
+    refused(Mode::Backend, "44 00 00 00 06 00 01", 5, 5);
+    refused(Mode::Frontend, "50 00 00 00 0B 00 00 00 01 00 00 00", 5, 7);
+    refused(Mode::Frontend, "42 00 00 00 0C 00 00 00 00 00 00 00 01", 5, 11);
+    refused(Mode::Backend, "47 00 00 00 07 00 80 00", 5, 6);
+}
+
+#[test]
+fn refusal_6_cut() {
+    refused(Mode::Backend, "43 00 00 00 06 4F 4B", 6, 5);
+    // a zero byte behind the frame does not end its text
+    refused(Mode::Backend, "43 00 00 00 06 4F 4B 00", 6, 5);
+    refused(Mode::Frontend, "45 00 00 00 09 61 00 00 00 00", 6, 7);
+    refused(Mode::Backend, "44 00 00 00 0B 00 01 00 00 00 02 61", 6, 7);
+    refused(Mode::Backend, "45 00 00 00 08 53 61 00 4D", 6, 9);
+    refused(Mode::Backend, "45 00 00 00 07 53 61 00", 6, 8);
+}
+
+#[test]
+fn refusal_7_not_allowed() {
+    refused(Mode::Frontend, "42 00 00 00 10 00 00 00 00 00 01 FF FF FF FE 00 00", 7, 11);
+    refused(Mode::Backend, "5A 00 00 00 05 58", 7, 5);
+    refused(Mode::Frontend, "43 00 00 00 06 58 00", 7, 5);
+    refused(Mode::Frontend, "44 00 00 00 06 00 00", 7, 5);
+    refused(Mode::Backend, "44 00 00 00 0A 00 01 80 00 00 00", 7, 7);
+}
+
+#[test]
+fn refusal_8_bytes_left() {
+    refused(Mode::Frontend, "53 00 00 00 05 00", 8, 5);
+    refused(Mode::Backend, "5A 00 00 00 06 49 00", 8, 6);
+    refused(Mode::Backend, "45 00 00 00 06 00 53", 8, 6);
+    refused(Mode::CancelRequest, "00 00 00 11 04 D2 16 2E 00 00 00 07 00 00 00 09 00", 8, 16);
+}
+
+#[test]
+fn refusal_9_output_too_short() {
+    // tests/kinds.rs has this of every encoder
+    cannot(9, encode::sync(&mut [0; 4]));
+    cannot(9, encode::sync(&mut []));
+    cannot(9, encode::ssl_response(SslResponse::Accept, &mut []));
+    let row = hex("44 00 00 00 10 00 02 00 00 00 02 61 62 FF FF FF FF");
+    let nine = Row::Refused(Refusal { number: 9, place: 0 });
+    assert_eq!(data_row(&row, &mut [0], &mut [0, 0]), nine);
+    assert_eq!(data_row(&row, &mut [0, 0], &mut [0]), nine);
+}
+
+#[test]
+fn refusal_10_not_representable() {
+    let out = &mut vec![0; 200000][..];
+    // a zero byte in a text
+    cannot(10, encode::parse(b"a\0", b"", &[], out));
+    cannot(10, encode::parse(b"", b"\0", &[], out));
+    cannot(10, encode::bind(b"\0", b"", &[], &[], b"", &[], out));
+    cannot(10, encode::bind(b"", b"a\0b", &[], &[], b"", &[], out));
+    cannot(10, encode::close(b'S', b"\0", out));
+    cannot(10, encode::describe(b'S', b"\0", out));
+    cannot(10, encode::execute(b"\0", 0, out));
+    cannot(10, encode::copy_fail(b"\0", out));
+    cannot(10, encode::command_complete(b"\0", out));
+    cannot(10, encode::notification_response(0, b"\0", b"", out));
+    cannot(10, encode::notification_response(0, b"", b"\0", out));
+    cannot(10, encode::error_response(b"S", &[2], b"a\0", out));
+    let field = FieldDescription { name: Span { start: 0, len: 1 }, ..FieldDescription::default() };
+    cannot(10, encode::row_description(&[field], b"\0", out));
+    // an error's code is zero
+    cannot(10, encode::notice_response(b"S\0", &[0, 0], b"", out));
+    // a list is longer than a count can say
+    cannot(10, encode::parse(b"", b"", &[0; 32768], out));
+    cannot(10, encode::parameter_description(&[0; 32768], out));
+    cannot(10, encode::data_row(&[-1; 32768], b"", out));
+    cannot(10, encode::bind(b"", b"", &[0; 32768], &[], b"", &[], out));
+    cannot(10, encode::bind(b"", b"", &[], &[-1; 32768], b"", &[], out));
+    cannot(10, encode::bind(b"", b"", &[], &[], b"", &[0; 32768], out));
+    cannot(10, encode::copy_in_response(0, &[0; 32768], out));
+    cannot(10, encode::copy_out_response(0, &[0; 32768], out));
+    cannot(10, encode::copy_both_response(0, &[0; 32768], out));
+    let nameless = FieldDescription::default();
+    cannot(10, encode::row_description(&[nameless; 32768], b"", out));
+    // a target, a status
+    for byte in (0..=255).filter(|byte| !b"SP".contains(byte)) {
+        cannot(10, encode::close(byte, b"", out));
+        cannot(10, encode::describe(byte, b"", out));
+    }
+    for byte in (0..=255).filter(|byte| !b"ITE".contains(byte)) {
+        cannot(10, encode::ready_for_query(byte, out));
+    }
+    // a length below -1; lengths that do not add up
+    cannot(10, encode::data_row(&[-2], b"", out));
+    cannot(10, encode::data_row(&[i32::MIN], b"", out));
+    cannot(10, encode::data_row(&[1], b"", out));
+    cannot(10, encode::data_row(&[1], b"ab", out));
+    cannot(10, encode::data_row(&[-1], b"a", out));
+    cannot(10, encode::data_row(&[i32::MAX; 3], b"", out));
+    cannot(10, encode::bind(b"", b"", &[], &[-2], b"", &[], out));
+    cannot(10, encode::bind(b"", b"", &[], &[2], b"a", &[], out));
+    cannot(10, encode::error_response(b"S", &[1], b"", out));
+    cannot(10, encode::error_response(b"S", &[1], b"ab", out));
+    cannot(10, encode::error_response(b"S", &[u32::MAX], b"a", out));
+    // an error's codes and lengths differ in number
+    cannot(10, encode::error_response(b"SM", &[1], b"a", out));
+    cannot(10, encode::notice_response(b"S", &[1, 0], b"a", out));
+    // a name outside the run
+    cannot(10, encode::row_description(&[field], b"", out));
+    // 10 comes before 4 and 9, and nothing was written
+    cannot(10, encode::command_complete(&[0; 9000], &mut []));
+    assert!(out.iter().all(|byte| *byte == 0));
+}
+
+#[test]
+fn refusal_11_no_such_element() {
+    let eleven = Element::Refused(Refusal { number: 11, place: 0 });
+    let row = hex("44 00 00 00 10 00 02 00 00 00 02 61 62 FF FF FF FF");
+    let bind = hex("42 00 00 00 10 00 00 00 00 00 01 FF FF FF FF 00 00");
+    assert_eq!(element(Mode::Backend, &row, 0, 2), eleven);
+    assert_eq!(element(Mode::Backend, &row, 1, 0), eleven);
+    assert_eq!(element(Mode::Frontend, &bind, 0, 0), eleven);
+    assert_eq!(element(Mode::Frontend, &bind, 1, 0), Element::Null);
+    assert_eq!(element(Mode::Frontend, &bind, 1, 1), eleven);
+    assert_eq!(element(Mode::Frontend, &bind, 3, 0), eleven);
+    assert_eq!(element(Mode::Frontend, &hex("53 00 00 00 04"), 0, 0), eleven);
+    assert_eq!(element(Mode::SslResponse, b"S", 0, 0), eleven);
+    let none = Row::Refused(Refusal { number: 11, place: 0 });
+    assert_eq!(data_row(&hex("31 00 00 00 04"), &mut [0], &mut [0]), none);
+}
+
+#[test]
+fn a_refusal_prints_what_and_where() {
+    let error: &dyn std::error::Error = &Refusal { number: 8, place: 5 };
+    assert_eq!(error.to_string(), "refusal 8 at 5: bytes are left over after the last field");
+    let mut texts: Vec<_> = (1..=12).map(|number| Refusal { number, place: 0 }.what()).collect();
+    assert_eq!(texts[11], "a number that this crate does not know");
+    texts.sort();
+    texts.dedup();
+    assert_eq!(texts.len(), 12);
+}
