@@ -39,7 +39,7 @@ write-copy-data-requires c κs =
     let v = c .before .before .before .before in
     let a = start v .args in
     let h = roomOf (M.copyData (now (a .data))) (says v) (c .before .before .r .given .1) in
-    omega (arith, h .whole, h .small, h .fits)
+    (omega (arith, h .whole), h .fits, h .small)
 
 returns-2 : tie.Need-returns-2
 returns-2 c =

@@ -26,7 +26,7 @@ write-copy-response-requires c κs =
     let v = c .before .before .before .before in
     let a = start v .args in
     let h = roomOf (M.formatted (a .type-byte) (pos 0) (now (a .column-formats))) (says v (pos 0)) (c .before .before .r .given .1) in
-    omega (arith, h .whole, h .small, h .fits)
+    (omega (arith, h .whole), h .fits, h .small)
 
 returns-2 : tie.Need-returns-2
 returns-2 c = λ z e.

@@ -34,8 +34,8 @@ write-data-row-requires c κs =
     let h = roomOf (M.dataRow (now (a .lengths)) (now (a .joined))) (says v) (c .before .before .r .given .1) in
     let few : length (now (a .lengths)) ≤ 32767 = leb-true _ _ (and-right some (h .able)) in (
       omega (arith, h .whole),
-      omega (arith, h .fits),
-      omega (arith, h .small),
+      h .fits,
+      h .small,
       few,
       and-left some (leb (length (now (a .lengths))) 32767) (h .able),
     )

@@ -28,7 +28,7 @@ write-parameter-description-requires c κs =
     let a = start v .args in
     let h = roomOf (M.parameterDescription (now (a .types))) (says v) (c .before .before .r .given .1) in
     let few : length (now (a .types)) ≤ 32767 = leb-true _ _ (h .able) in
-    omega (arith, h .whole, h .small, h .fits)
+    (omega (arith, h .whole), h .fits, h .small, few)
 
 returns-2 : tie.Need-returns-2
 returns-2 c =

@@ -25,7 +25,7 @@ write-aim-requires c κs =
     let v = c .before .before .before .before in
     let a = start v .args in
     let h = roomOf (M.aimed (a .type-byte) (a .target-type) (now (a .name))) (says v) (c .before .before .r .given .1) in
-    omega (arith, h .whole, h .small, h .fits)
+    (omega (arith, h .whole), h .fits, h .small)
 
 returns-2 : tie.Need-returns-2
 returns-2 c =

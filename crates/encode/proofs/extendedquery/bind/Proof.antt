@@ -35,8 +35,8 @@ write-bind-requires c κs =
     let counts = and-right (noZero (now (a .statement-name))) (and-right (noZero (now (a .portal-name))) (and-right some (h .able))) in
     let more = and-right (leb (length (now (a .parameter-format-codes))) 32767) counts in (
       omega (arith, h .whole),
-      omega (arith, h .fits),
-      omega (arith, h .small),
+      h .fits,
+      h .small,
       leb-true _ _ (and-left _ _ counts),
       leb-true _ _ (and-left _ _ more),
       leb-true _ _ (and-right (leb (length (now (a .lengths))) 32767) more),

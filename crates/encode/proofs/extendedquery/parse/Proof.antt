@@ -31,7 +31,7 @@ write-parse-requires c κs =
     let a = start v .args in
     let h = roomOf (M.parse (now (a .name)) (now (a .query)) (now (a .type-oids))) (says v) (c .before .before .r .given .1) in
     let few : length (now (a .type-oids)) ≤ 32767 = leb-true _ _ (and-right (noZero (now (a .query))) (and-right (noZero (now (a .name))) (h .able))) in
-    omega (arith, h .whole, h .small, h .fits)
+    (omega (arith, h .whole), h .fits, h .small, few)
 
 returns-2 : tie.Need-returns-2
 returns-2 c =

@@ -27,7 +27,7 @@ write-notification-response-requires c κs =
     let v = c .before .before .before .before in
     let a = start v .args in
     let h = roomOf (M.notificationResponse (a .pid) (now (a .channel)) (now (a .payload))) (says v) (c .before .before .r .given .1) in
-    omega (arith, h .whole, h .small, h .fits)
+    (omega (arith, h .whole), h .fits, h .small)
 
 returns-2 : tie.Need-returns-2
 returns-2 c =

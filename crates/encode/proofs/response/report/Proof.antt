@@ -36,8 +36,8 @@ write-report-requires c κs =
     let h = roomOf (M.reported (a .type-byte) (now (a .codes)) (now (a .lengths)) (now (a .joined)) (small v)) (says v) (c .before .before .r .given .1) in
     let some = isSome (errorFieldsGiven (now (a .codes)) (now (a .lengths)) (now (a .joined))) in (
       omega (arith, h .whole),
-      omega (arith, h .fits),
-      omega (arith, h .small),
+      h .fits,
+      h .small,
       and-left some (noZero (now (a .joined)) && noZero (now (a .codes))) (h .able),
     )
 
