@@ -10,7 +10,7 @@
 
 #include "tusweram.h"
 
-_Static_assert(sizeof(size_t) == 8, "the archive has numbers of 64 bits");
+_Static_assert(sizeof(size_t) == 8, "the archives have numbers of 64 bits");
 _Static_assert(sizeof(struct tusweram_field_description) == 40, "the layout of a field");
 _Static_assert(offsetof(struct tusweram_field_description, type_id) == 24, "the layout of a field");
 _Static_assert(offsetof(struct tusweram_field_description, format_code) == 36, "the layout of a field");
