@@ -30,17 +30,19 @@ machine_tools() {
     fi
 }
 
-# The archive's folder is TUSWERAM_LIB; where none is given, it is proved and built.
-archive() {
+# The folder of the two archives is TUSWERAM_LIB; where none is given, they are proved and built.
+archives() {
     if [ -z "${TUSWERAM_LIB:-}" ]; then
-        command -v rt >/dev/null 2>&1 || skip "no command rt, and TUSWERAM_LIB names no folder with libhost.a"
-        (cd "$root" && rt staticlib host) >"$logs/staticlib.log" 2>&1 || {
+        command -v rt >/dev/null 2>&1 || skip "no command rt, and TUSWERAM_LIB names no folder with libhost.a and libparts.a"
+        (cd "$root" && rt staticlib host && rt staticlib parts) >"$logs/staticlib.log" 2>&1 || {
             tail -n 5 "$logs/staticlib.log"
             stop "the library is not proved: bindings/build/staticlib.log"
         }
         TUSWERAM_LIB=$root/target/staticlib
     fi
-    [ -f "$TUSWERAM_LIB/libhost.a" ] || stop "$TUSWERAM_LIB has no libhost.a"
+    for archive in libhost.a libparts.a; do
+        [ -f "$TUSWERAM_LIB/$archive" ] || stop "$TUSWERAM_LIB has no $archive"
+    done
     TUSWERAM_LIB=$(cd "$TUSWERAM_LIB" && pwd -P)
     export TUSWERAM_LIB
 }

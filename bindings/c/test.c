@@ -10,10 +10,10 @@
 
 #include "tusweram.h"
 
-_Static_assert(sizeof(size_t) == 8, "the archive has numbers of 64 bits");
-_Static_assert(sizeof(struct tusweram_field) == 40, "the layout of a field");
-_Static_assert(offsetof(struct tusweram_field, type_id) == 24, "the layout of a field");
-_Static_assert(offsetof(struct tusweram_field, format_code) == 36, "the layout of a field");
+_Static_assert(sizeof(size_t) == 8, "the archives have numbers of 64 bits");
+_Static_assert(sizeof(struct tusweram_field_description) == 40, "the layout of a field");
+_Static_assert(offsetof(struct tusweram_field_description, type_id) == 24, "the layout of a field");
+_Static_assert(offsetof(struct tusweram_field_description, format_code) == 36, "the layout of a field");
 
 static int checks, wrong;
 
@@ -75,6 +75,16 @@ static void value(const uint8_t *bytes, size_t n, size_t at) {
     tusweram_value(lent(bytes, n), n, at, row);
 }
 
+static void field(const uint8_t *bytes, size_t n, size_t at) {
+    stale();
+    tusweram_field(lent(bytes, n), n, at, row);
+}
+
+static void error_field(const uint8_t *bytes, size_t n, size_t at) {
+    stale();
+    tusweram_error_field(lent(bytes, n), n, at, row);
+}
+
 /* Are these the row's numbers, with zeros behind them? */
 static int is(int count, ...) {
     va_list numbers;
@@ -90,6 +100,12 @@ static int is(int count, ...) {
 #define NEED_MORE is(1, Z(1))
 
 #define ROW BYTES("D\0\0\0\x10\0\x02\0\0\0\x02" "ab\xff\xff\xff\xff")
+#define FIELD_BYTES                                                                                                                      \
+    "T\0\0\0\x2d\0\x02" "a\0\0\0\0\x02\0\x03\0\0\0\x04\0\x05\xff\xff\xff\xff\0\x01"                                                      \
+    "\0\x80\0\0\0\xff\xfe\xff\xff\xff\xff\xff\xff\0\0\0\x07\xff\xfd"
+#define ERROR_BYTES "E\0\0\0\x0aSx\0M\0\0"
+#define FIELDS BYTES(FIELD_BYTES)
+#define ERRORS BYTES(ERROR_BYTES)
 #define BIND BYTES("B\0\0\0\x15\0\0\0\x01\xff\xfe\0\x01\0\0\0\x01" "a\0\x01\0\x01")
 
 static void decoding(void) {
@@ -191,6 +207,67 @@ static void values(void) {
         tusweram_value(NONE, past[i], row);
         CHECK(REFUSED(6, past[i]));
     }
+}
+
+static void fields(void) {
+    field(FIELDS, 7);
+    CHECK(is(13, Z(0), Z(0), Z(0), Z(27), Z(5), Z(7), Z(1), Z(2), Z(3), Z(4), Z(5), Z(4294967295), Z(1)));
+    field(FIELDS, 27);
+    CHECK(is(13, Z(0), Z(0), Z(0), Z(46), Z(5), Z(27), Z(0), Z(2147483648), Z(4294967294), Z(4294967295), Z(4294967295), Z(7), Z(4294967293)));
+    /* cut at each byte: the place of the name, then of each number */
+    static const size_t cut_at[] = {7, 7, 9, 9, 9, 9, 13, 13, 15, 15, 15, 15, 19, 19, 21, 21, 21, 21, 25, 25};
+    const uint8_t *bytes = (const uint8_t *)FIELD_BYTES;
+    for (size_t i = 0; i < 20; i++) {
+        field(bytes, 7 + i, 7);
+        CHECK(REFUSED(6, cut_at[i]));
+    }
+    field(bytes, 27, 7);
+    CHECK(row[0] == 0 && row[3] == 27);
+    field(BYTES("abc"), 1);
+    CHECK(REFUSED(6, 1));
+    size_t past[] = {46, 47, 48, SIZE_MAX / 2, SIZE_MAX - 18, SIZE_MAX - 1, SIZE_MAX};
+    for (size_t i = 0; i < sizeof past / sizeof *past; i++) {
+        field(FIELDS, past[i]);
+        CHECK(REFUSED(6, past[i]));
+        stale();
+        tusweram_field(NONE, past[i], row);
+        CHECK(REFUSED(6, past[i]));
+    }
+    stale();
+    tusweram_field(NONE, 0, row);
+    CHECK(REFUSED(6, 0));
+}
+
+static void error_fields(void) {
+    error_field(ERRORS, 5);
+    CHECK(is(8, Z(0), Z(0), Z(0), Z(8), Z(6), Z(83), Z(6), Z(1)));
+    error_field(ERRORS, 8);
+    CHECK(is(7, Z(0), Z(0), Z(0), Z(10), Z(6), Z(77), Z(9)));
+    /* the list's end is a code as any other: here no text follows it, and here one does */
+    error_field(ERRORS, 10);
+    CHECK(REFUSED(6, 11));
+    error_field(BYTES("\0ab\0"), 0);
+    CHECK(is(8, Z(0), Z(0), Z(0), Z(4), Z(6), Z(0), Z(1), Z(2)));
+    error_field(BYTES("\xff\0"), 0);
+    CHECK(is(7, Z(0), Z(0), Z(0), Z(2), Z(6), Z(255), Z(1)));
+    /* cut: no code, no text, no zero byte */
+    static const size_t cut_at[] = {5, 6, 6};
+    const uint8_t *bytes = (const uint8_t *)ERROR_BYTES;
+    for (size_t i = 0; i < 3; i++) {
+        error_field(bytes, 5 + i, 5);
+        CHECK(REFUSED(6, cut_at[i]));
+    }
+    size_t past[] = {11, 12, 13, SIZE_MAX / 2, SIZE_MAX - 1, SIZE_MAX};
+    for (size_t i = 0; i < sizeof past / sizeof *past; i++) {
+        error_field(ERRORS, past[i]);
+        CHECK(REFUSED(6, past[i]));
+        stale();
+        tusweram_error_field(NONE, past[i], row);
+        CHECK(REFUSED(6, past[i]));
+    }
+    stale();
+    tusweram_error_field(NONE, 0, row);
+    CHECK(REFUSED(6, 0));
 }
 
 static void rows(void) {
@@ -355,10 +432,10 @@ static void encoding_lists(void) {
 }
 
 static void encoding_row_description(void) {
-    struct tusweram_field field = {1, 1, 2, 3, 4, 5, -1, 1};
+    struct tusweram_field_description field = {1, 1, 2, 3, 4, 5, -1, 1};
     WRITES(tusweram_encode_row_description(&field, 1, BYTES("xay"), out, out_len),
            "T\0\0\0\x1a\0\x01" "a\0\0\0\0\x02\0\x03\0\0\0\x04\0\x05\xff\xff\xff\xff\0\x01");
-    struct tusweram_field two[] = {{0, 2, INT32_MIN, -1, UINT32_MAX, -2, 7, -3}, {2, 0, 0, 0, 0, 0, 0, 0}};
+    struct tusweram_field_description two[] = {{0, 2, INT32_MIN, -1, UINT32_MAX, -2, 7, -3}, {2, 0, 0, 0, 0, 0, 0, 0}};
     WRITES(tusweram_encode_row_description(two, 2, BYTES("id"), out, out_len),
            "T\0\0\0\x2e\0\x02id\0\x80\0\0\0\xff\xff\xff\xff\xff\xff\xff\xfe\0\0\0\x07\xff\xfd"
            "\0\0\0\0\0\0\0\0\0\0\0\0\0\0\0\0\0\0\0");
@@ -380,6 +457,8 @@ int main(void) {
     decoding();
     elements();
     values();
+    fields();
+    error_fields();
     rows();
     encoding();
     encoding_lists();

@@ -1,7 +1,7 @@
 /* Tusweram for a C host: messages of the PostgreSQL wire protocol, version 3, read and written in lent buffers.
  *
- * Link the archive that `rt staticlib host` makes (target/staticlib/libhost.a, for x86-64). It needs nothing else, keeps nothing between
- * calls, allocates nothing, and may be called from any thread.
+ * Link the two archives that `rt staticlib host` and `rt staticlib parts` make (target/staticlib/libhost.a and libparts.a, for x86-64). They
+ * need nothing else, keep nothing between calls, allocate nothing, and may be called from any thread.
  *
  * A slice is two arguments: a pointer, and how many elements it has. NULL is allowed where the length is 0. What a host must see to: each
  * pointer has its length's elements, and what is written to (out, starts, lengths) overlaps no other argument. Anything else may have any
@@ -24,7 +24,7 @@ extern "C" {
  *   out[0]    the status, one of the three below
  *   out[1]    refused: the refusal's number
  *   out[2]    refused: the refusal's place
- *   out[3]    the bytes that the frame took; of tusweram_value, the next place
+ *   out[3]    the bytes that the frame took; of a call that is given a place, the next place
  *   out[4]    the kind, or the sort of an element
  *   out[5]..  its fields, in the order of the tables below:
  *             a part (text, value or rest)   its first byte, its length
@@ -110,13 +110,23 @@ enum tusweram_refusal {
 /* The first message of a buffer; any bytes may follow it. */
 void tusweram_decode(uint8_t mode, const uint8_t *buf, size_t buf_len, size_t out[TUSWERAM_NUMBERS]);
 
-/* An element of a list of the buffer's first message. BIND has lists 0 (formats), 1 (values) and 2 (result formats), every other kind with a
+/* libparts.a has this function and the four below; libhost.a has the others.
+ *
+ * An element of a list of the buffer's first message. BIND has lists 0 (formats), 1 (values) and 2 (result formats), every other kind with a
  * list has list 0. Each call decodes the message anew. */
 void tusweram_element(uint8_t mode, const uint8_t *buf, size_t buf_len, size_t list, size_t number, size_t out[TUSWERAM_NUMBERS]);
 
 /* The value at a place of a frame: TUSWERAM_NULL or TUSWERAM_VALUE in out[4], and the next place in out[3]. For all values of a row or a
  * BIND, start at the list's first place, and give as frame_len the bytes that decoding said the frame took. */
 void tusweram_value(const uint8_t *frame, size_t frame_len, size_t at, size_t out[TUSWERAM_NUMBERS]);
+
+/* The field of a ROW_DESCRIPTION at a place of a frame, as the element TUSWERAM_FIELD, with the next place in out[3]; refusal 6 with the place
+ * where it is cut. All fields are read as all values are. */
+void tusweram_field(const uint8_t *frame, size_t frame_len, size_t at, size_t out[TUSWERAM_NUMBERS]);
+
+/* The same of an ERROR_RESPONSE or NOTICE_RESPONSE, as the element TUSWERAM_ERROR_FIELD. Go by the list's count: the zero byte that ends the
+ * list is read as any code is. */
+void tusweram_error_field(const uint8_t *frame, size_t frame_len, size_t at, size_t out[TUSWERAM_NUMBERS]);
 
 /* The values of a DATA_ROW from the backend, the buffer's first message, in one pass: value i has lengths[i] bytes from starts[i] on, and is
  * NULL where lengths[i] is -1 (starts[i] is then 0). Later entries are kept. out as of tusweram_decode; refusal 9 where a slice has
@@ -159,7 +169,7 @@ size_t tusweram_encode_lists(size_t kind, int8_t format, const uint8_t *one, siz
                              uint8_t *out, size_t out_len);
 
 /* A field of a ROW_DESCRIPTION; its name is a part of the run of names. */
-struct tusweram_field {
+struct tusweram_field_description {
     size_t name_start;
     size_t name_len;
     int32_t table_id;
@@ -171,8 +181,8 @@ struct tusweram_field {
 };
 
 /* A ROW_DESCRIPTION. */
-size_t tusweram_encode_row_description(const struct tusweram_field *fields, size_t fields_len, const uint8_t *run, size_t run_len, uint8_t *out,
-                                       size_t out_len);
+size_t tusweram_encode_row_description(const struct tusweram_field_description *fields, size_t fields_len, const uint8_t *run, size_t run_len,
+                                       uint8_t *out, size_t out_len);
 
 #ifdef __cplusplus
 }

@@ -1,8 +1,11 @@
-//! Links the library's archive. `TUSWERAM_LIB` names a folder that has `libhost.a`; without it, `rt staticlib host` proves and builds one.
+//! Links the library's two archives. `TUSWERAM_LIB` names a folder that has `libhost.a` and `libparts.a`; without it, `rt staticlib` proves and
+//! builds them.
 
 use std::env;
 use std::path::{Path, PathBuf};
 use std::process::Command;
+
+const ARCHIVES: [&str; 2] = ["host", "parts"];
 
 fn main() {
     println!("cargo:rerun-if-env-changed=TUSWERAM_LIB");
@@ -11,31 +14,38 @@ fn main() {
         None => built(),
     };
     println!("cargo:rustc-link-search=native={}", folder.display());
-    println!("cargo:rustc-link-lib=static=host");
+    for name in ARCHIVES {
+        println!("cargo:rustc-link-lib=static={name}");
+    }
 }
 
 fn given(folder: PathBuf) -> PathBuf {
-    let archive = folder.join("libhost.a");
-    assert!(archive.is_file(), "{} is not there; TUSWERAM_LIB names a folder by its whole path", archive.display());
-    println!("cargo:rerun-if-changed={}", archive.display());
+    for name in ARCHIVES {
+        let archive = folder.join(format!("lib{name}.a"));
+        assert!(archive.is_file(), "{} is not there; TUSWERAM_LIB names a folder by its whole path", archive.display());
+        println!("cargo:rerun-if-changed={}", archive.display());
+    }
     folder
 }
 
-// Built again where a source has changed, and not where the archive is newer than this run, which it always is.
+// Built again where a source has changed, and not where an archive is newer than this run, which it always is.
 fn built() -> PathBuf {
     let arch = env::var("CARGO_CFG_TARGET_ARCH").unwrap_or_default();
     assert!(
         arch == "x86_64",
-        "rt staticlib makes an archive for x86-64, and this build is for {arch}: give --target x86_64-unknown-linux-gnu"
+        "rt staticlib makes archives for x86-64, and this build is for {arch}: give --target x86_64-unknown-linux-gnu"
     );
     let here = env::var_os("CARGO_MANIFEST_DIR").expect("cargo says where the crate is");
     let root = Path::new(&here).join("../..");
     println!("cargo:rerun-if-changed={}", root.join("crates").display());
-    let status = Command::new("rt").args(["staticlib", "host"]).current_dir(&root).status();
-    match status {
-        Ok(status) => assert!(status.success(), "rt staticlib host failed: {status}"),
-        Err(e) => {
-            panic!("the Rattle kit's command rt cannot be run ({e}): put it on PATH, or name a folder that has libhost.a in TUSWERAM_LIB")
+    for name in ARCHIVES {
+        match Command::new("rt").args(["staticlib", name]).current_dir(&root).status() {
+            Ok(status) => assert!(status.success(), "rt staticlib {name} failed: {status}"),
+            Err(e) => {
+                panic!(
+                    "the Rattle kit's command rt cannot be run ({e}): put it on PATH, or name a folder with both archives in TUSWERAM_LIB"
+                )
+            }
         }
     }
     root.join("target/staticlib")

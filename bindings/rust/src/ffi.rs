@@ -1,4 +1,4 @@
-//! The boundary itself: the library's seven functions, over numbers and slices, as safe functions. All `unsafe` code of the crate is here.
+//! The boundary itself: the library's nine functions, over numbers and slices, as safe functions. All `unsafe` code of the crate is here.
 //!
 //! The other modules give these numbers their names; a host needs this one only to see an answer as it is.
 //!
@@ -8,7 +8,7 @@
 //! |---|---|
 //! | 0 | the status: 0 there is an answer, 1 need-more, 2 refused |
 //! | 1, 2 | the refusal's number and place |
-//! | 3 | the bytes consumed; of [`value`], the next place |
+//! | 3 | the bytes consumed; of [`value`], [`field`] and [`error_field`], the next place |
 //! | 4 | the kind, or the sort of an element |
 //! | 5 .. | its fields: a part as its start and length, a list as its start and count, a signed number as its 32 bits |
 
@@ -22,6 +22,8 @@ extern "C" {
     fn tusweram_decode(mode: u8, buf: *const u8, buf_len: usize, out: *mut usize);
     fn tusweram_element(mode: u8, buf: *const u8, buf_len: usize, list: usize, number: usize, out: *mut usize);
     fn tusweram_value(frame: *const u8, frame_len: usize, at: usize, out: *mut usize);
+    fn tusweram_field(frame: *const u8, frame_len: usize, at: usize, out: *mut usize);
+    fn tusweram_error_field(frame: *const u8, frame_len: usize, at: usize, out: *mut usize);
     fn tusweram_data_row(
         buf: *const u8,
         buf_len: usize,
@@ -94,6 +96,20 @@ pub fn element(mode: u8, buf: &[u8], list: usize, number: usize) -> Row {
 pub fn value(frame: &[u8], at: usize) -> Row {
     let mut out = [0; 16];
     unsafe { tusweram_value(frame.as_ptr(), frame.len(), at, out.as_mut_ptr()) };
+    out
+}
+
+/// The field of a RowDescription at a place of a frame.
+pub fn field(frame: &[u8], at: usize) -> Row {
+    let mut out = [0; 16];
+    unsafe { tusweram_field(frame.as_ptr(), frame.len(), at, out.as_mut_ptr()) };
+    out
+}
+
+/// The field of an error or a notice at a place of a frame. At the zero byte that ends the list it reads on: go by the list's count.
+pub fn error_field(frame: &[u8], at: usize) -> Row {
+    let mut out = [0; 16];
+    unsafe { tusweram_error_field(frame.as_ptr(), frame.len(), at, out.as_mut_ptr()) };
     out
 }
 

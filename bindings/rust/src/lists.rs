@@ -3,17 +3,16 @@
 //! | list | what a step costs |
 //! |---|---|
 //! | [`Oids`], [`Formats`] | one number read from the buffer, at a place that the library gave |
-//! | [`Values`] | one call, which reads the value's length: a whole row is linear in its values |
-//! | [`Fields`], [`ErrorFields`] | one call that decodes the frame and walks to the element: a whole list is quadratic in its elements |
+//! | [`Values`] | one call, which reads the value's length |
+//! | [`Fields`], [`ErrorFields`] | one call, which reads the field's text to its zero byte, and its numbers |
 //!
-//! Measured once: 200 fields take half a millisecond, 1,600 (as many columns as a table can have) a tenth of a second, 32,767 (as many as a count
-//! can say) 36 seconds, and as many values half a millisecond. Where the sender is not trusted, look at `len()` before walking fields.
+//! A step begins at the place where the last one ended: a whole list is linear in its elements, and of fields in their bytes.
 
 use core::fmt;
 use core::iter::FusedIterator;
 
+use crate::ffi;
 use crate::numbers::{half, part, sort, word};
-use crate::{ffi, Mode};
 
 /// Object ids of types.
 #[derive(Clone, Copy)]
@@ -38,25 +37,15 @@ pub struct Formats<'a> {
 /// assert!(row.data.iter().eq([Some(&b"ab"[..]), None]));
 /// ```
 #[derive(Clone, Copy)]
-pub struct Values<'a> {
-    frame: &'a [u8],
-    start: usize,
-    count: usize,
-}
+pub struct Values<'a>(Walk<'a>);
 
 /// Fields of a RowDescription.
 #[derive(Clone, Copy)]
-pub struct Fields<'a> {
-    frame: &'a [u8],
-    count: usize,
-}
+pub struct Fields<'a>(Walk<'a>);
 
 /// Fields of an error or a notice.
 #[derive(Clone, Copy)]
-pub struct ErrorFields<'a> {
-    frame: &'a [u8],
-    count: usize,
-}
+pub struct ErrorFields<'a>(Walk<'a>);
 
 /// One field of a RowDescription.
 #[derive(Clone, Copy, Debug, PartialEq, Eq)]
@@ -87,41 +76,36 @@ pub struct FormatsIter<'a>(core::slice::ChunksExact<'a, u8>);
 
 /// An iterator over [`Values`].
 #[derive(Clone)]
-pub struct ValuesIter<'a> {
+pub struct ValuesIter<'a>(Walk<'a>);
+
+/// An iterator over [`Fields`].
+#[derive(Clone)]
+pub struct FieldsIter<'a>(Walk<'a>);
+
+/// An iterator over [`ErrorFields`].
+#[derive(Clone)]
+pub struct ErrorFieldsIter<'a>(Walk<'a>);
+
+// The elements of a list from a place on, so many as are left of its count.
+#[derive(Clone, Copy)]
+struct Walk<'a> {
     frame: &'a [u8],
     at: usize,
     left: usize,
 }
 
-/// An iterator over [`Fields`].
-#[derive(Clone)]
-pub struct FieldsIter<'a>(Elements<'a>);
-
-/// An iterator over [`ErrorFields`].
-#[derive(Clone)]
-pub struct ErrorFieldsIter<'a>(Elements<'a>);
-
-// Elements of list 0 of a frame from the backend.
-#[derive(Clone)]
-struct Elements<'a> {
-    frame: &'a [u8],
-    next: usize,
-    count: usize,
-}
-
-impl Elements<'_> {
-    fn step(&mut self) -> Option<ffi::Row> {
-        if self.next >= self.count {
+impl Walk<'_> {
+    // One call, which answers the element and the next place.
+    fn step(&mut self, read: fn(&[u8], usize) -> ffi::Row) -> Option<ffi::Row> {
+        if self.left == 0 {
             return None;
         }
-        let row = ffi::element(Mode::Backend as u8, self.frame, 0, self.next);
-        // Of a decoded frame every element is there; the other end is for an archive that is another than the crate's.
-        self.next = if row[0] == 0 { self.next + 1 } else { self.count };
-        (row[0] == 0).then_some(row)
-    }
-
-    fn left(&self) -> usize {
-        self.count.saturating_sub(self.next)
+        let row = read(self.frame, self.at);
+        let [status, _, _, next, ..] = row;
+        // Of a decoded frame every element is there; the other end is for archives that are others than the crate's.
+        self.left = if status == 0 { self.left - 1 } else { 0 };
+        self.at = next;
+        (status == 0).then_some(row)
     }
 }
 
@@ -157,46 +141,46 @@ impl<'a> Formats<'a> {
 
 impl<'a> Values<'a> {
     pub(crate) fn new(frame: &'a [u8], start: usize, count: usize) -> Self {
-        Values { frame, start, count }
+        Values(Walk { frame, at: start, left: count })
     }
 
     /// How many there are.
     pub fn len(&self) -> usize {
-        self.count
+        self.0.left
     }
 
     pub fn iter(&self) -> ValuesIter<'a> {
-        ValuesIter { frame: self.frame, at: self.start, left: self.count }
+        ValuesIter(self.0)
     }
 }
 
 impl<'a> Fields<'a> {
-    pub(crate) fn new(frame: &'a [u8], count: usize) -> Self {
-        Fields { frame, count }
+    pub(crate) fn new(frame: &'a [u8], start: usize, count: usize) -> Self {
+        Fields(Walk { frame, at: start, left: count })
     }
 
     /// How many there are.
     pub fn len(&self) -> usize {
-        self.count
+        self.0.left
     }
 
     pub fn iter(&self) -> FieldsIter<'a> {
-        FieldsIter(Elements { frame: self.frame, next: 0, count: self.count })
+        FieldsIter(self.0)
     }
 }
 
 impl<'a> ErrorFields<'a> {
-    pub(crate) fn new(frame: &'a [u8], count: usize) -> Self {
-        ErrorFields { frame, count }
+    pub(crate) fn new(frame: &'a [u8], start: usize, count: usize) -> Self {
+        ErrorFields(Walk { frame, at: start, left: count })
     }
 
     /// How many there are.
     pub fn len(&self) -> usize {
-        self.count
+        self.0.left
     }
 
     pub fn iter(&self) -> ErrorFieldsIter<'a> {
-        ErrorFieldsIter(Elements { frame: self.frame, next: 0, count: self.count })
+        ErrorFieldsIter(self.0)
     }
 
     /// The text of the first field with a code, as `b'M'` for the message.
@@ -257,22 +241,12 @@ impl<'a> Iterator for ValuesIter<'a> {
     type Item = Option<&'a [u8]>;
 
     fn next(&mut self) -> Option<Option<&'a [u8]>> {
-        if self.left == 0 {
-            return None;
-        }
-        let [status, _, _, next, found, start, len, ..] = ffi::value(self.frame, self.at);
-        if status != 0 {
-            // As in Elements::step.
-            self.left = 0;
-            return None;
-        }
-        self.at = next;
-        self.left -= 1;
-        Some((found == sort::VALUE).then(|| part(self.frame, start, len)))
+        let [_, _, _, _, found, start, len, ..] = self.0.step(ffi::value)?;
+        Some((found == sort::VALUE).then(|| part(self.0.frame, start, len)))
     }
 
     fn size_hint(&self) -> (usize, Option<usize>) {
-        (self.left, Some(self.left))
+        (self.0.left, Some(self.0.left))
     }
 }
 
@@ -280,12 +254,12 @@ impl<'a> Iterator for FieldsIter<'a> {
     type Item = Field<'a>;
 
     fn next(&mut self) -> Option<Field<'a>> {
-        let row = self.0.step()?;
+        let row = self.0.step(ffi::field)?;
         Some(Field::new(self.0.frame, &row))
     }
 
     fn size_hint(&self) -> (usize, Option<usize>) {
-        (self.0.left(), Some(self.0.left()))
+        (self.0.left, Some(self.0.left))
     }
 }
 
@@ -293,12 +267,12 @@ impl<'a> Iterator for ErrorFieldsIter<'a> {
     type Item = ErrorField<'a>;
 
     fn next(&mut self) -> Option<ErrorField<'a>> {
-        let row = self.0.step()?;
+        let row = self.0.step(ffi::error_field)?;
         Some(ErrorField::new(self.0.frame, &row))
     }
 
     fn size_hint(&self) -> (usize, Option<usize>) {
-        (self.0.left(), Some(self.0.left()))
+        (self.0.left, Some(self.0.left))
     }
 }
 

@@ -242,13 +242,13 @@ impl<'a> Message<'a> {
             kind::PORTAL_SUSPENDED => Message::PortalSuspended,
             kind::NO_DATA => Message::NoData,
             kind::EMPTY_QUERY_RESPONSE => Message::EmptyQueryResponse,
-            kind::ROW_DESCRIPTION => Message::RowDescription(RowDescription { fields: Fields::new(frame, b) }),
+            kind::ROW_DESCRIPTION => Message::RowDescription(RowDescription { fields: Fields::new(frame, a, b) }),
             kind::PARAMETER_DESCRIPTION => Message::ParameterDescription(ParameterDescription { types: Oids::new(frame, a, b) }),
             kind::DATA_ROW => Message::DataRow(DataRow { data: Values::new(frame, a, b) }),
             kind::COMMAND_COMPLETE => Message::CommandComplete(CommandComplete { tag: part(frame, a, b) }),
             kind::READY_FOR_QUERY => Message::ReadyForQuery(ReadyForQuery { status: a as u8 }),
-            kind::ERROR_RESPONSE => Message::ErrorResponse(ErrorResponse { fields: ErrorFields::new(frame, b) }),
-            kind::NOTICE_RESPONSE => Message::NoticeResponse(NoticeResponse { fields: ErrorFields::new(frame, b) }),
+            kind::ERROR_RESPONSE => Message::ErrorResponse(ErrorResponse { fields: ErrorFields::new(frame, a, b) }),
+            kind::NOTICE_RESPONSE => Message::NoticeResponse(NoticeResponse { fields: ErrorFields::new(frame, a, b) }),
             kind::COPY_IN_RESPONSE => {
                 Message::CopyInResponse(CopyInResponse { format: word(a) as i8, column_formats: Formats::new(frame, b, c) })
             }

@@ -4,6 +4,9 @@ use tusweram::ffi::{self, Lists, Plain};
 use tusweram::{FieldDescription, Span};
 
 const ROW: &[u8] = b"D\0\0\0\x10\0\x02\0\0\0\x02ab\xff\xff\xff\xff";
+const FIELDS: &[u8] = b"T\0\0\0\x2d\0\x02a\0\0\0\0\x02\0\x03\0\0\0\x04\0\x05\xff\xff\xff\xff\0\x01\
+    \0\x80\0\0\0\xff\xfe\xff\xff\xff\xff\xff\xff\0\0\0\x07\xff\xfd";
+const ERRORS: &[u8] = b"E\0\0\0\x0aSx\0M\0\0";
 const BIND: &[u8] = b"B\0\0\0\x15\0\0\0\x01\xff\xfe\0\x01\0\0\0\x01a\0\x01\0\x01";
 
 fn row(numbers: &[usize]) -> ffi::Row {
@@ -53,6 +56,45 @@ fn value() {
     assert_eq!(ffi::value(b"\x80\0\0\0", 0), row(&[2, 7, 0]));
     assert_eq!(ffi::value(b"\0\0\0\0", 0), row(&[0, 0, 0, 4, 4, 4, 0]));
     assert_eq!(ffi::value(b"\x7f\xff\xff\xff", 0), row(&[2, 6, 0]));
+}
+
+#[test]
+fn field() {
+    assert_eq!(ffi::decode(1, FIELDS), row(&[0, 0, 0, 46, 17, 7, 2]));
+    assert_eq!(ffi::field(FIELDS, 7), row(&[0, 0, 0, 27, 5, 7, 1, 2, 3, 4, 5, 4294967295, 1]));
+    let second = [0, 0, 0, 46, 5, 27, 0, 2147483648, 4294967294, 4294967295, 4294967295, 7, 4294967293];
+    assert_eq!(ffi::field(FIELDS, 27), row(&second));
+    // cut at each byte: the place of the name, then of each number
+    for (from, to, place) in [(0, 8, 7), (9, 12, 9), (13, 14, 13), (15, 18, 15), (19, 20, 19), (21, 24, 21), (25, 26, 25)] {
+        for n in from..=to {
+            assert_eq!(ffi::field(&FIELDS[..n], 7), row(&[2, 6, place]), "cut to {n}");
+        }
+    }
+    assert_eq!(ffi::field(&FIELDS[..27], 7), ffi::field(FIELDS, 7));
+    for at in [46, 47, usize::MAX / 2, usize::MAX - 18, usize::MAX] {
+        assert_eq!(ffi::field(FIELDS, at), row(&[2, 6, at]));
+        assert_eq!(ffi::field(b"", at), row(&[2, 6, at]));
+    }
+    assert_eq!(ffi::field(b"", 0), row(&[2, 6, 0]));
+}
+
+#[test]
+fn error_field() {
+    assert_eq!(ffi::decode(1, ERRORS), row(&[0, 0, 0, 11, 22, 5, 2]));
+    assert_eq!(ffi::error_field(ERRORS, 5), row(&[0, 0, 0, 8, 6, 83, 6, 1]));
+    assert_eq!(ffi::error_field(ERRORS, 8), row(&[0, 0, 0, 10, 6, 77, 9, 0]));
+    // the list's end is a code as any other: here no text follows it, and here one does
+    assert_eq!(ffi::error_field(ERRORS, 10), row(&[2, 6, 11]));
+    assert_eq!(ffi::error_field(b"\0ab\0", 0), row(&[0, 0, 0, 4, 6, 0, 1, 2]));
+    // cut: no code, no text, no zero byte
+    for (n, place) in [(0, 5), (5, 5), (6, 6), (7, 6)] {
+        assert_eq!(ffi::error_field(&ERRORS[..n], 5), row(&[2, 6, place]), "cut to {n}");
+    }
+    for at in [11, 12, usize::MAX / 2, usize::MAX - 1, usize::MAX] {
+        assert_eq!(ffi::error_field(ERRORS, at), row(&[2, 6, at]));
+        assert_eq!(ffi::error_field(b"", at), row(&[2, 6, at]));
+    }
+    assert_eq!(ffi::error_field(b"", 0), row(&[2, 6, 0]));
 }
 
 #[test]

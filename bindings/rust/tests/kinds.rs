@@ -251,4 +251,18 @@ fn the_largest_frames() {
     let Decoded::Record(Message::DataRow(row), 131075) = decode(Mode::Backend, &out) else { panic!() };
     assert_eq!(row.data.iter().filter(|value| value.is_none()).count(), 32767);
     common::same_row(&out, &row);
+    // as many fields as a count can say: their bytes are read once each
+    let field = FieldDescription {
+        name: Span { start: 0, len: 2 },
+        table_id: 0,
+        column_id: 0,
+        type_id: 23,
+        type_size: 4,
+        type_modifier: -1,
+        format_code: 0,
+    };
+    let mut out = vec![0; 7 + 32767 * 21];
+    assert_eq!(encode::row_description(&[field; 32767], b"id", &mut out), Ok(out.len()));
+    let Decoded::Record(Message::RowDescription(row), _) = decode(Mode::Backend, &out) else { panic!() };
+    assert_eq!(row.fields.iter().filter(|field| field.name == b"id" && field.type_id == 23).count(), 32767);
 }

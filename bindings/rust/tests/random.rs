@@ -191,6 +191,10 @@ fn damage() {
         for at in [r.below(buf.len() + 8), r.next() as usize] {
             let [status, number, place, next, _, start, len, ..] = ffi::value(&buf, at);
             assert!(if status == 0 { next <= buf.len() && start + len <= next } else { number >= 6 && place == at });
+            let [status, number, place, next, _, start, len, ..] = ffi::field(&buf, at);
+            assert!(if status == 0 { next <= buf.len() && start + len + 19 == next } else { number == 6 && place >= at });
+            let [status, number, place, next, _, _, start, len, ..] = ffi::error_field(&buf, at);
+            assert!(if status == 0 { next <= buf.len() && start + len + 1 == next } else { number == 6 && place >= at });
         }
         let (mut starts, mut lengths) = ([0; 3], [0; 3]);
         let _ = data_row(&buf, &mut starts, &mut lengths);
