@@ -215,6 +215,18 @@ fn singles(p: &mut Points) -> Vec<Single> {
             ours::element_into(1, black_box(&f), 0, n - 1, &mut out);
         });
     }
+    for n in [1, 10, 100, 900] {
+        let f = model::encode(&model::given(&sized(model::named(17), 8, n)), usize::MAX).expect("a frame");
+        let mut out = [0; ROW];
+        single(p, format!("description of {n} columns: each field by a call, after decode"), &mut || {
+            let mut at = 7;
+            for _ in 0..n {
+                ours::field_into(black_box(&f), at, &mut out);
+                at = out[3];
+            }
+            assert!(at == f.len());
+        });
+    }
     for n in [0usize, 8, 64, 1024] {
         let tag = sized(model::named(20), n, 0);
         let f = model::encode(&model::given(&tag), usize::MAX).expect("a frame");
@@ -307,8 +319,13 @@ fn growth(generated: &[Costs], singles: &[Single]) {
         }
     }
     let cost = |name: &str| singles.iter().find(|s| s.name == name).map_or(0.0, |s| s.cost);
-    for what in ["decoded, and every value placed, in one call", "each value by a call, after decode", "an element call for the last"] {
-        let slope = (cost(&format!("row of 900 columns: {what}")) - cost(&format!("row of 100 columns: {what}"))) / 800.0;
-        println!("| a row, one more column: {what} | {slope:.2} | | | |");
+    for (of, what) in [
+        ("row", "decoded, and every value placed, in one call"),
+        ("row", "each value by a call, after decode"),
+        ("row", "an element call for the last"),
+        ("description", "each field by a call, after decode"),
+    ] {
+        let slope = (cost(&format!("{of} of 900 columns: {what}")) - cost(&format!("{of} of 100 columns: {what}"))) / 800.0;
+        println!("| a {of}, one more column: {what} | {slope:.2} | | | |");
     }
 }

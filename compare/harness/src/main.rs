@@ -31,6 +31,7 @@ struct Run {
     failures: u64,
     elements: u64,
     rows: u64,
+    items: u64,
     encoded: u64,
     ours_encoded: u64,
     sources: BTreeMap<&'static str, u64>,
@@ -62,6 +63,7 @@ impl Run {
             failures: 0,
             elements: 0,
             rows: 0,
+            items: 0,
             encoded: 0,
             ours_encoded: 0,
             sources: BTreeMap::new(),
@@ -116,6 +118,7 @@ impl Run {
             }
         }
         self.elements_of(mode, buf, &expected);
+        self.items_of(mode, buf, &expected);
         if mode == 1 {
             self.row_of(buf, &expected);
         }
@@ -145,7 +148,7 @@ impl Run {
         }
     }
 
-    /// A row in one pass, into slices that are long enough, one too short, and longer; and its values one after another.
+    /// A row in one pass, into slices that are long enough, one too short, and longer.
     fn row_of(&mut self, buf: &[u8], answer: &Answer) {
         let (count, entries) = match answer {
             Answer::Record(k, _, slots) if k.number == 19 => {
@@ -175,22 +178,32 @@ impl Run {
                 self.fail("another row", 1, buf, format!("ours {got:?} {starts:?} {lengths:?}\n  model {expected:?} {starts2:?} {lengths2:?}"));
             }
         }
+    }
+
+    /// The items of a list one after another, each at the place that the one before it told.
+    fn items_of(&mut self, mode: u8, buf: &[u8], answer: &Answer) {
         let Answer::Record(k, consumed, slots) = answer else { return };
-        if k.number != 19 {
+        let lists = model::lists(k, slots);
+        if !matches!(k.number, 17 | 19 | 22 | 23) || lists[0].2 > 300 {
             return;
         }
-        let mut at = model::lists(k, slots)[0].1;
-        for e in &entries {
-            let got = ours::value(&buf[..*consumed], at);
-            let next = match e {
+        let frame = &buf[..*consumed];
+        let mut at = lists[0].1;
+        for i in 0..lists[0].2 {
+            let element = model::element(mode, buf, 0, i);
+            let next = match &element {
                 model::Element::Value(start, len) => start + len,
+                model::Element::Field { name: (start, len), .. } => start + len + 19,
+                model::Element::ErrorField(_, start, len) => start + len + 1,
                 _ => at + 4,
             };
-            let mut expected = model::element_row(e);
+            let mut expected = model::element_row(&element);
             expected[3] = next;
+            let got = ours::item(k.number, frame, at);
             if got != expected {
-                self.fail("another value", 1, buf, format!("at {at}: ours {got:?}\n  model {expected:?}"));
+                self.fail("another item", mode, buf, format!("at {at}: ours {got:?}\n  model {expected:?}"));
             }
+            self.items += 1;
             at = next;
         }
     }
@@ -248,7 +261,7 @@ impl Run {
         for (s, n) in &self.sources {
             println!("  {n:>10}  {s}");
         }
-        println!("elements: {} calls; rows in one pass: {}", self.elements, self.rows);
+        println!("elements: {} calls; items one after another: {}; rows in one pass: {}", self.elements, self.items, self.rows);
         println!("encoding: {} contents; with what is no content {} by the library, each into four outputs", self.encoded, self.ours_encoded);
         for (e, n) in &self.written {
             println!("{n:>12}  {e}");

@@ -6,6 +6,8 @@ use crate::model::{Given, Row, RowGiven, ROW};
 unsafe extern "C" {
     fn tusweram_element(mode: u8, buf: *const u8, len: usize, list: usize, number: usize, out: *mut usize);
     fn tusweram_value(frame: *const u8, len: usize, at: usize, out: *mut usize);
+    fn tusweram_field(frame: *const u8, len: usize, at: usize, out: *mut usize);
+    fn tusweram_error_field(frame: *const u8, len: usize, at: usize, out: *mut usize);
     fn tusweram_data_row(buf: *const u8, len: usize, starts: *mut usize, starts_len: usize, lengths: *mut i32, lengths_len: usize, out: *mut usize);
 }
 
@@ -68,6 +70,14 @@ pub fn value_into(frame: &[u8], at: usize, out: &mut Row) {
     unsafe { tusweram_value(frame.as_ptr(), frame.len(), at, out.as_mut_ptr()) }
 }
 
+pub fn field_into(frame: &[u8], at: usize, out: &mut Row) {
+    unsafe { tusweram_field(frame.as_ptr(), frame.len(), at, out.as_mut_ptr()) }
+}
+
+pub fn error_field_into(frame: &[u8], at: usize, out: &mut Row) {
+    unsafe { tusweram_error_field(frame.as_ptr(), frame.len(), at, out.as_mut_ptr()) }
+}
+
 pub fn data_row_into(buf: &[u8], starts: &mut [usize], lengths: &mut [i32], out: &mut Row) {
     unsafe {
         tusweram_data_row(buf.as_ptr(), buf.len(), starts.as_mut_ptr(), starts.len(), lengths.as_mut_ptr(), lengths.len(), out.as_mut_ptr())
@@ -82,8 +92,13 @@ pub fn element(mode: u8, buf: &[u8], list: usize, number: usize) -> Row {
     answer(|out| element_into(mode, buf, list, number, out))
 }
 
-pub fn value(frame: &[u8], at: usize) -> Row {
-    answer(|out| value_into(frame, at, out))
+/// The item at a place of a frame of a kind whose items have no fixed size: a value, a row's field or an error's.
+pub fn item(kind: u8, frame: &[u8], at: usize) -> Row {
+    answer(|out| match kind {
+        17 => field_into(frame, at, out),
+        19 => value_into(frame, at, out),
+        _ => error_field_into(frame, at, out),
+    })
 }
 
 pub fn data_row(buf: &[u8], starts: &mut [usize], lengths: &mut [i32]) -> Row {
