@@ -13,6 +13,7 @@
 //! | 5 .. | its fields: a part as its start and length, a list as its start and count, a signed number as its 32 bits |
 
 use crate::FieldDescription;
+use core::mem::MaybeUninit;
 
 /// An answer: sixteen numbers.
 pub type Row = [usize; 16];
@@ -76,50 +77,44 @@ extern "C" {
 }
 
 // Why each call is safe: every pointer and its length are those of a slice or array that lives through the call, a `&mut` is of no other
-// argument, the library keeps no pointer, and it is proved to read and write inside its slices for every input.
+// argument, the library keeps no pointer, and it is proved to read and write inside its slices for every input, and to write all sixteen numbers
+// of an answer.
+
+fn answer(call: impl FnOnce(*mut usize)) -> Row {
+    let mut out = MaybeUninit::<Row>::uninit();
+    call(out.as_mut_ptr().cast());
+    unsafe { out.assume_init() }
+}
 
 /// The first message of a buffer.
 pub fn decode(mode: u8, buf: &[u8]) -> Row {
-    let mut out = [0; 16];
-    unsafe { tusweram_decode(mode, buf.as_ptr(), buf.len(), out.as_mut_ptr()) };
-    out
+    answer(|out| unsafe { tusweram_decode(mode, buf.as_ptr(), buf.len(), out) })
 }
 
 /// An element of a list of the buffer's first message.
 pub fn element(mode: u8, buf: &[u8], list: usize, number: usize) -> Row {
-    let mut out = [0; 16];
-    unsafe { tusweram_element(mode, buf.as_ptr(), buf.len(), list, number, out.as_mut_ptr()) };
-    out
+    answer(|out| unsafe { tusweram_element(mode, buf.as_ptr(), buf.len(), list, number, out) })
 }
 
 /// The value at a place of a frame.
 pub fn value(frame: &[u8], at: usize) -> Row {
-    let mut out = [0; 16];
-    unsafe { tusweram_value(frame.as_ptr(), frame.len(), at, out.as_mut_ptr()) };
-    out
+    answer(|out| unsafe { tusweram_value(frame.as_ptr(), frame.len(), at, out) })
 }
 
 /// The field of a RowDescription at a place of a frame.
 pub fn field(frame: &[u8], at: usize) -> Row {
-    let mut out = [0; 16];
-    unsafe { tusweram_field(frame.as_ptr(), frame.len(), at, out.as_mut_ptr()) };
-    out
+    answer(|out| unsafe { tusweram_field(frame.as_ptr(), frame.len(), at, out) })
 }
 
 /// The field of an error or a notice at a place of a frame. At the zero byte that ends the list it reads on: go by the list's count.
 pub fn error_field(frame: &[u8], at: usize) -> Row {
-    let mut out = [0; 16];
-    unsafe { tusweram_error_field(frame.as_ptr(), frame.len(), at, out.as_mut_ptr()) };
-    out
+    answer(|out| unsafe { tusweram_error_field(frame.as_ptr(), frame.len(), at, out) })
 }
 
 /// The values of a DataRow, the buffer's first message: where each starts, and its length (-1 for NULL).
 pub fn data_row(buf: &[u8], starts: &mut [usize], lengths: &mut [i32]) -> Row {
-    let mut out = [0; 16];
-    unsafe {
-        tusweram_data_row(buf.as_ptr(), buf.len(), starts.as_mut_ptr(), starts.len(), lengths.as_mut_ptr(), lengths.len(), out.as_mut_ptr())
-    };
-    out
+    let (first, last) = ((starts.as_mut_ptr(), starts.len()), (lengths.as_mut_ptr(), lengths.len()));
+    answer(|out| unsafe { tusweram_data_row(buf.as_ptr(), buf.len(), first.0, first.1, last.0, last.1, out) })
 }
 
 /// What a message with no list is written from; which of these a kind has, [`crate::encode`] shows.

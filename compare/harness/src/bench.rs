@@ -6,7 +6,7 @@
 //! Both forms go through the same points in the same order, so that a count is known by its place.
 
 use crate::content::{Content, Field, RowField};
-use crate::model::{self, KINDS, ROW};
+use crate::model::{self, KINDS};
 use crate::{oracle, ours};
 use bytes::BytesMut;
 use std::collections::BTreeMap;
@@ -56,10 +56,9 @@ struct Costs {
 
 fn decode_costs(p: &mut Points, frames: &[(u8, &[u8])]) -> (f64, f64, f64) {
     let n = frames.len() as u64;
-    let mut out = [0; ROW];
     let ours = p.point(n, || {
         for (mode, f) in frames {
-            ours::decode_into(*mode, black_box(f), &mut out);
+            black_box(&ours::decode(*mode, black_box(f)));
         }
     });
     let context = oracle::context(frames[0].0);
@@ -196,33 +195,30 @@ fn singles(p: &mut Points) -> Vec<Single> {
     };
     for n in [1, 10, 100, 900] {
         let f = row(n);
-        let (mut starts, mut lengths, mut out) = (vec![0; n], vec![0; n], [0; ROW]);
+        let (mut starts, mut lengths) = (vec![0; n], vec![0; n]);
         single(p, format!("row of {n} columns: decoded, and every value placed, in one call"), &mut || {
-            ours::data_row_into(black_box(&f), &mut starts, &mut lengths, &mut out);
+            black_box(&ours::data_row(black_box(&f), &mut starts, &mut lengths));
         });
         single(p, format!("row of {n} columns: each value by a call, after decode"), &mut || {
             let mut at = 7;
             for _ in 0..n {
-                ours::value_into(black_box(&f), at, &mut out);
-                at = out[3];
+                at = black_box(&ours::value(black_box(&f), at))[3];
             }
             assert!(at == f.len());
         });
         single(p, format!("row of {n} columns: an element call for the first"), &mut || {
-            ours::element_into(1, black_box(&f), 0, 0, &mut out);
+            black_box(&ours::element(1, black_box(&f), 0, 0));
         });
         single(p, format!("row of {n} columns: an element call for the last"), &mut || {
-            ours::element_into(1, black_box(&f), 0, n - 1, &mut out);
+            black_box(&ours::element(1, black_box(&f), 0, n - 1));
         });
     }
     for n in [1, 10, 100, 900] {
         let f = model::encode(&model::given(&sized(model::named(17), 8, n)), usize::MAX).expect("a frame");
-        let mut out = [0; ROW];
         single(p, format!("description of {n} columns: each field by a call, after decode"), &mut || {
             let mut at = 7;
             for _ in 0..n {
-                ours::field_into(black_box(&f), at, &mut out);
-                at = out[3];
+                at = black_box(&ours::field(black_box(&f), at))[3];
             }
             assert!(at == f.len());
         });
@@ -230,9 +226,8 @@ fn singles(p: &mut Points) -> Vec<Single> {
     for n in [0usize, 8, 64, 1024] {
         let tag = sized(model::named(20), n, 0);
         let f = model::encode(&model::given(&tag), usize::MAX).expect("a frame");
-        let mut out = [0; ROW];
         single(p, format!("CommandComplete with a tag of {n}"), &mut || {
-            ours::decode_into(1, black_box(&f), &mut out);
+            black_box(&ours::decode(1, black_box(&f)));
         });
         single(p, format!("memchr over {n} bytes and the zero"), &mut || {
             black_box(zero_in(black_box(&f[5..])));

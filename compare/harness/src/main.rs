@@ -19,6 +19,7 @@ use inputs::Rng;
 use model::{Answer, KINDS};
 use oracle::Seen;
 use std::collections::BTreeMap;
+use tusweram::ffi::{self, Lists, Plain};
 
 /// What was counted, and where each case goes.
 struct Run {
@@ -318,14 +319,13 @@ fn bytes_alone(run: &mut Run) {
 fn unknown_kinds(run: &mut Run) {
     for kind in (0..64).chain([usize::MAX]) {
         for byte in 0..=255 {
-            let given = model::Given { kind: kind as u8, ..model::Given::default() };
             let mut out = [9; 64];
             let plain = matches!(kind, 3..=16 | 20 | 21 | 27 | 28) || (matches!(kind, 29 | 30) && byte < 2);
-            if !plain && ours::plain(kind, byte, 0, 0, &[], &[], &mut out) != usize::MAX - 2 {
+            if !plain && ffi::encode(kind, Plain { byte, ..Plain::default() }, &mut out) != usize::MAX - 2 {
                 run.fail("an unknown kind is written", 0, &out, format!("tusweram_encode of kind {kind}, byte {byte}"));
             }
             let listed = matches!(kind, 1 | 2 | 18 | 19 | 22..=26);
-            if !listed && kind < 256 && ours::lists(&given, &[], &[], &[], &mut out) != usize::MAX - 2 {
+            if !listed && ffi::encode_lists(kind, Lists::default(), &mut out) != usize::MAX - 2 {
                 run.fail("an unknown kind is written", 0, &out, format!("tusweram_encode_lists of kind {kind}"));
             }
             if out != [9; 64] {

@@ -557,7 +557,6 @@ pub fn element_row(e: &Element) -> Row {
 
 /// A field of a RowDescription to be written: its name is a part of the run.
 #[derive(Clone, PartialEq, Eq, Debug)]
-#[repr(C)]
 pub struct RowGiven {
     pub start: usize,
     pub len: usize,
