@@ -8,7 +8,7 @@ ghost use mathlib.Core.Bool.{_&&_, true};
 ghost use mathlib.Core.List.{[], _++_, _∷_};
 ghost use mathlib.Core.Path.{_≡_};
 ghost use lib.Dec.{leb};
-ghost use lib.ListN.{length};
+ghost use lib.ListN.{drop, length, take};
 ghost use Rattle.protocol.specs.Bytes.{be, bitsOf, noZero};
 ghost use Rattle.protocol.specs.Encode.{items};
 ghost use Rattle.protocol.specs.Fields.{bytes, itemsBytes};
@@ -82,7 +82,8 @@ pub fn bits32(x: i32) -> u32
 
 // ---- bytes and strings
 
-fn store_bytes(out: &mut [u8], at: usize, s: &[u8]) -> usize
+// One by one.
+fn store_each(out: &mut [u8], at: usize, s: &[u8]) -> usize
     requires { ⌜ at + length (now s) ≤ length (now out) ⌝ }
     ensures { λ r. ⌜ Wrote (now (out .entry)) at (now (s .entry)) (length (now (s .entry))) (now (out .exit)) r ⌝ }
 {
@@ -94,6 +95,63 @@ fn store_bytes(out: &mut [u8], at: usize, s: &[u8]) -> usize
         i += 1;
     }
     p
+}
+
+// So many bytes of s at once. All are read before any is stored: the compiler then needs no test whether the two slices meet.
+fn store_block(out: &mut [u8], at: usize, s: &[u8], from: usize, width: usize) -> usize
+    requires { ⌜ (at + width ≤ length (now out)) × (from + width ≤ length (now s)) × (width ≤ 64) ⌝ }
+    ensures { λ r. ⌜ Wrote (now (out .entry)) at (take width (drop from (now (s .entry)))) width (now (out .exit)) r ⌝ }
+{
+    let mut block = [0u8; 64];
+    store_each(&mut block, 0, &s[from..from + width]);
+    store_each(out, at, &block[..width])
+}
+
+// The first and the last bytes, so many of each: they may meet.
+fn store_ends(out: &mut [u8], at: usize, s: &[u8], width: usize) -> usize
+    requires { ⌜ (at + length (now s) ≤ length (now out)) × (width ≤ length (now s)) × (length (now s) ≤ width + width) × (width ≤ 64) ⌝ }
+    ensures { λ r. ⌜ Wrote (now (out .entry)) at (now (s .entry)) (length (now (s .entry))) (now (out .exit)) r ⌝ }
+{
+    let last = s.len() - width;
+    store_block(out, at, s, 0, width);
+    store_block(out, at + last, s, last, width)
+}
+
+// Blocks of 64, and the last 64.
+fn store_blocks(out: &mut [u8], at: usize, s: &[u8]) -> usize
+    requires { ⌜ (at + length (now s) ≤ length (now out)) × (64 ≤ length (now s)) ⌝ }
+    ensures { λ r. ⌜ Wrote (now (out .entry)) at (now (s .entry)) (length (now (s .entry))) (now (out .exit)) r ⌝ }
+{
+    let last = s.len() - 64;
+    let mut i = 0;
+    while i < last {
+        store_block(out, at + i, s, i, 64);
+        i += 64;
+    }
+    store_block(out, at + last, s, last, 64)
+}
+
+fn store_bytes(out: &mut [u8], at: usize, s: &[u8]) -> usize
+    requires { ⌜ at + length (now s) ≤ length (now out) ⌝ }
+    ensures { λ r. ⌜ Wrote (now (out .entry)) at (now (s .entry)) (length (now (s .entry))) (now (out .exit)) r ⌝ }
+{
+    let n = s.len();
+    if n < 4 {
+        return store_each(out, at, s);
+    }
+    if n < 8 {
+        return store_ends(out, at, s, 4);
+    }
+    if n < 16 {
+        return store_ends(out, at, s, 8);
+    }
+    if n < 32 {
+        return store_ends(out, at, s, 16);
+    }
+    if n < 64 {
+        return store_ends(out, at, s, 32);
+    }
+    store_blocks(out, at, s)
 }
 
 // A string, with its zero byte.
