@@ -131,27 +131,34 @@ fn store_blocks(out: &mut [u8], at: usize, s: &[u8]) -> usize
     store_block(out, at + last, s, last, 64)
 }
 
+// Fewer than 16 bytes.
+fn store_short(out: &mut [u8], at: usize, s: &[u8]) -> usize
+    requires { ⌜ (at + length (now s) ≤ length (now out)) × (length (now s) ≤ 16) ⌝ }
+    ensures { λ r. ⌜ Wrote (now (out .entry)) at (now (s .entry)) (length (now (s .entry))) (now (out .exit)) r ⌝ }
+{
+    if 8 <= s.len() {
+        return store_ends(out, at, s, 8);
+    }
+    if 4 <= s.len() {
+        return store_ends(out, at, s, 4);
+    }
+    store_each(out, at, s)
+}
+
 fn store_bytes(out: &mut [u8], at: usize, s: &[u8]) -> usize
     requires { ⌜ at + length (now s) ≤ length (now out) ⌝ }
     ensures { λ r. ⌜ Wrote (now (out .entry)) at (now (s .entry)) (length (now (s .entry))) (now (out .exit)) r ⌝ }
 {
-    let n = s.len();
-    if n < 4 {
-        return store_each(out, at, s);
+    if s.len() < 16 {
+        return store_short(out, at, s);
     }
-    if n < 8 {
-        return store_ends(out, at, s, 4);
+    if 64 <= s.len() {
+        return store_blocks(out, at, s);
     }
-    if n < 16 {
-        return store_ends(out, at, s, 8);
-    }
-    if n < 32 {
-        return store_ends(out, at, s, 16);
-    }
-    if n < 64 {
+    if 32 <= s.len() {
         return store_ends(out, at, s, 32);
     }
-    store_blocks(out, at, s)
+    store_ends(out, at, s, 16)
 }
 
 // A string, with its zero byte.
