@@ -170,6 +170,15 @@ fn store_text(out: &mut [u8], at: usize, s: &[u8]) -> usize
     store_byte(out, at, 0)
 }
 
+// A number of four bytes, and bytes.
+fn store_value(out: &mut [u8], at: usize, x: u32, s: &[u8]) -> usize
+    requires { ⌜ at + (4 + length (now s)) ≤ length (now out) ⌝ }
+    ensures { λ r. ⌜ Wrote (now (out .entry)) at (be 4 x ++ now (s .entry)) (4 + length (now (s .entry))) (now (out .exit)) r ⌝ }
+{
+    let at = store_word(out, at, x);
+    store_bytes(out, at, s)
+}
+
 pub fn no_zero(s: &[u8]) -> bool
     ensures { λ r. ⌜ r ≡ noZero (now (s .entry)) ⌝ }
 {
@@ -310,6 +319,16 @@ pub fn put_bytes(out: &mut [u8], at: usize, s: &[u8]) -> usize
 {
     if room(true, out.len(), at, s.len()) {
         return store_bytes(out, at, s);
+    }
+    at
+}
+
+// A value: its length, as the bits x, and its bytes.
+pub fn put_value(out: &mut [u8], at: usize, x: u32, s: &[u8]) -> usize
+    ensures { λ r. ⌜ Put true (now (out .entry)) at (be 4 x ++ now (s .entry)) (4 + length (now (s .entry))) (now (out .exit)) r ⌝ }
+{
+    if room(true, out.len(), at, 4 + s.len()) {
+        return store_value(out, at, x, s);
     }
     at
 }
