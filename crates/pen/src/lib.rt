@@ -179,6 +179,19 @@ fn store_value(out: &mut [u8], at: usize, x: u32, s: &[u8]) -> usize
     store_bytes(out, at, s)
 }
 
+// Three pairs of numbers, of four bytes and of two.
+fn store_pairs(out: &mut [u8], at: usize, a: u32, b: u16, c: u32, d: u16, e: u32, f: u16) -> usize
+    requires { ⌜ at + 18 ≤ length (now out) ⌝ }
+    ensures { λ r. ⌜ Wrote (now (out .entry)) at (be 4 a ++ (be 2 b ++ (be 4 c ++ (be 2 d ++ (be 4 e ++ (be 2 f ++ [])))))) 18 (now (out .exit)) r ⌝ }
+{
+    let at = store_word(out, at, a);
+    let at = store_half(out, at, b);
+    let at = store_word(out, at, c);
+    let at = store_half(out, at, d);
+    let at = store_word(out, at, e);
+    store_half(out, at, f)
+}
+
 pub fn no_zero(s: &[u8]) -> bool
     ensures { λ r. ⌜ r ≡ noZero (now (s .entry)) ⌝ }
 {
@@ -338,6 +351,15 @@ pub fn put_text(out: &mut [u8], at: usize, s: &[u8]) -> usize
 {
     if room(true, out.len(), at, s.len() + 1) {
         return store_text(out, at, s);
+    }
+    at
+}
+
+pub fn put_pairs(out: &mut [u8], at: usize, a: u32, b: u16, c: u32, d: u16, e: u32, f: u16) -> usize
+    ensures { λ r. ⌜ Put true (now (out .entry)) at (be 4 a ++ (be 2 b ++ (be 4 c ++ (be 2 d ++ (be 4 e ++ (be 2 f ++ [])))))) 18 (now (out .exit)) r ⌝ }
+{
+    if room(true, out.len(), at, 18) {
+        return store_pairs(out, at, a, b, c, d, e, f);
     }
     at
 }
