@@ -1,5 +1,5 @@
 -- Runs of stores, one after the other; and what a loop over a list does at each turn.
-use Prim.Native.Nat.{ℕ, zero, suc, _+_, _-_, _≤_, _<_}
+use Prim.Native.Nat.{ℕ, zero, suc, _+_, _-_, _*_, _/_, _%_, _≤_, _<_}
 use mathlib.Core.List.{List, [], _∷_, _++_}
 use mathlib.Core.Path.{_≡_, refl, ap, _∙_, sym}
 use native.Mathlib.Nat.{add-zero, zero-add}
@@ -7,6 +7,7 @@ use native.Mathlib.Numerals.{add-one}
 use native.Mathlib.Omega.{arith}
 use lib.ListN.{length, set, getD, take, drop, length-append, length-drop, take-append-drop, drop-of-length-le}
 use lib.Seq.{drop-cons, sets, sets-eq, take-add, take-all, take-at, length-take-le}
+use Rattle.protocol.specs.Bytes.{be}
 use Rattle.pen.specs.Writing.{write, Wrote}
 
 pub write-append : (d : List ℕ) (p : ℕ) (xs ys : List ℕ) → write (write d p xs) (p + length xs) ys ≡ write d p (xs ++ ys)
@@ -116,3 +117,43 @@ through {other} {block} {d} {out} {xs} {p} {n} {r} {next} a size room b =
     let e : take n block ≡ xs = rw f (take-at xs (drop (length xs) other) n size) in
     let w : Wrote d p xs (length xs) out next = rw e at b in
     record { bytes = w .bytes; size = size; place = omega (arith, w .place) }
+
+-- ---- a number's bytes, in one order and in the other
+
+rest : (y b q : ℕ) → b < 256 → y ≡ b + 256 * q → y % 256 ≡ b
+rest y b q h e = omega arith
+
+-- of a number that is put together from four bytes
+four : (y a b c d : ℕ) → a < 256 → b < 256 → c < 256 → d < 256 → y ≡ a * 16777216 + b * 65536 + c * 256 + d
+    → (y % 256 ≡ d) × (y / 256 % 256 ≡ c) × (y / 65536 % 256 ≡ b) × (y / 16777216 % 256 ≡ a)
+four y a b c d ha hb hc hd e =
+    let above-d : y / 256 ≡ c + 256 * (b + a * 256) = omega arith in
+    let above-c : y / 65536 ≡ b + 256 * a = omega arith in
+    let above-b : y / 16777216 ≡ a + 256 * 0 = omega arith in
+    (omega arith, rest (y / 256) c (b + a * 256) hc above-d, rest (y / 65536) b a hb above-c, rest (y / 16777216) a 0 ha above-b)
+
+twice : (x : ℕ) → x / 256 / 256 ≡ x / 65536
+twice x = omega arith
+
+thrice : (x : ℕ) → x / 256 / 256 / 256 ≡ x / 16777216
+thrice x = omega arith
+
+top : (x : ℕ) → x < 4294967296 → x / 16777216 < 256
+top x h = omega arith
+
+byte : (x : ℕ) → x % 256 < 256
+byte x = omega arith
+
+low : (x : ℕ) → x < 256 → x % 256 ≡ x
+low x h = omega arith
+
+turned-bytes : (x y : ℕ) → x < 4294967296 → y ≡ x % 256 * 16777216 + x / 256 % 256 * 65536 + x / 65536 % 256 * 256 + x / 16777216
+    → (y % 256 ∷ y / 256 % 256 ∷ y / 65536 % 256 ∷ y / 16777216 % 256 ∷ []) ≡ be 4 x
+unfolding be
+turned-bytes x y small e =
+    let f = four y (x % 256) (x / 256 % 256) (x / 65536 % 256) (x / 16777216) (byte x) (byte (x / 256)) (byte (x / 65536)) (top x small) e in
+    rw (f .0, f .1, f .2, f .3, thrice x, twice x, low (x / 16777216) (top x small)) refl
+
+pub turned-wrote : {d out : List ℕ} {p next : ℕ} (x y : ℕ) → x < 4294967296 → y ≡ x % 256 * 16777216 + x / 256 % 256 * 65536 + x / 65536 % 256 * 256 + x / 16777216
+    → Wrote d p (y % 256 ∷ y / 256 % 256 ∷ y / 65536 % 256 ∷ y / 16777216 % 256 ∷ []) 4 out next → Wrote d p (be 4 x) 4 out next
+turned-wrote x y small e w = rw (← turned-bytes x y small e) w

@@ -3,7 +3,7 @@
 pub mod errors;
 pub mod values;
 
-ghost use Prim.Native.Nat.{_+_, _-_, _*_, _≤_, min};
+ghost use Prim.Native.Nat.{_+_, _-_, _*_, _/_, _%_, _≤_, min};
 ghost use mathlib.Core.Bool.{_&&_, true};
 ghost use mathlib.Core.List.{[], _++_, _∷_};
 ghost use mathlib.Core.Path.{_≡_};
@@ -47,6 +47,25 @@ fn store_word(out: &mut [u8], at: usize, x: u32) -> usize
     let at = store_byte(out, at, (x / 256 / 256 % 256) as u8);
     let at = store_byte(out, at, (x / 256 % 256) as u8);
     store_byte(out, at, (x % 256) as u8)
+}
+
+// The same four bytes in the other order: a byte swap.
+fn turned(x: u32) -> u32
+    ensures { λ r. ⌜ r ≡ x % 256 * 16777216 + x / 256 % 256 * 65536 + x / 65536 % 256 * 256 + x / 16777216 ⌝ }
+{
+    x % 256 * 16777216 + x / 256 % 256 * 65536 + x / 65536 % 256 * 256 + x / 16777216
+}
+
+// As store_word. Beside other stores the compiler makes one store of these, and four of those.
+fn store_turned(out: &mut [u8], at: usize, x: u32) -> usize
+    requires { ⌜ at + 4 ≤ length (now out) ⌝ }
+    ensures { λ r. ⌜ Wrote (now (out .entry)) at (be 4 x) 4 (now (out .exit)) r ⌝ }
+{
+    let y = turned(x);
+    let at = store_byte(out, at, (y % 256) as u8);
+    let at = store_byte(out, at, (y / 256 % 256) as u8);
+    let at = store_byte(out, at, (y / 65536 % 256) as u8);
+    store_byte(out, at, (y / 16777216 % 256) as u8)
 }
 
 // The bits of a signed number, in two's complement.
@@ -184,11 +203,11 @@ fn store_pairs(out: &mut [u8], at: usize, a: u32, b: u16, c: u32, d: u16, e: u32
     requires { ⌜ at + 18 ≤ length (now out) ⌝ }
     ensures { λ r. ⌜ Wrote (now (out .entry)) at (be 4 a ++ (be 2 b ++ (be 4 c ++ (be 2 d ++ (be 4 e ++ (be 2 f ++ [])))))) 18 (now (out .exit)) r ⌝ }
 {
-    let at = store_word(out, at, a);
+    let at = store_turned(out, at, a);
     let at = store_half(out, at, b);
-    let at = store_word(out, at, c);
+    let at = store_turned(out, at, c);
     let at = store_half(out, at, d);
-    let at = store_word(out, at, e);
+    let at = store_turned(out, at, e);
     store_half(out, at, f)
 }
 
@@ -285,7 +304,7 @@ fn store_head(out: &mut [u8], type_byte: u8, n: usize) -> usize
     ensures { λ r. ⌜ Wrote (now (out .entry)) 0 (header typed «type_byte» (n - 5)) 5 (now (out .exit)) r ⌝ }
 {
     let at = store_byte(out, 0, type_byte);
-    store_word(out, at, (n - 1) as u32)
+    store_turned(out, at, (n - 1) as u32)
 }
 
 // ---- the writers, for any place: each writes all or nothing

@@ -12,7 +12,7 @@ returns c =
     let c3 = c4 .before .before .before .before in
     let c2 = c3 .before .before .before .before in
     let c1 = c2 .before .before .before .before in
-    c1 .store-word .ensures then c2 .store-half .ensures then c3 .store-word2 .ensures then c4 .store-half2 .ensures then c5 .store-word3 .ensures
+    c1 .store-turned .ensures then c2 .store-half .ensures then c3 .store-turned2 .ensures then c4 .store-half2 .ensures then c5 .store-turned3 .ensures
     then c6 .store-half3 .ensures then nothing
 
 pub store-pairs-spec : {M : Type 1} → statement M
