@@ -65,7 +65,7 @@ module _ (fs : List FieldDescription) (run : List ℕ) where
   module _ (out : List ℕ) where
     says : (r : Encoded) → r ≡ answered (allPen fs run blank) (length fs) (length out) → Judged K.backend K.rowDescription (G.rowDescription fs run) (length out) r
     says r v =
-        judged measures (omega arith) (ap (λ (b : Bool). leb (length fs) 32767 && b) (pen-ok fs run blank)) (λ _. omega (arith, pen-at fs run blank (omega arith))) v
+        judged measures (omega arith) (ap (λ (b : Bool). leb (length fs) 32767 && b) (pen-ok fs run blank refl)) (λ _. omega (arith, pen-at fs run blank (omega arith))) v
 
     -- what the pass that writes leaves of a frame of n bytes
     written : (n : ℕ) → n ≡ 7 + total fs → n ≤ length out → length out < 18446744073709551615 → allNamed fs run ≡ true

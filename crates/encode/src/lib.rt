@@ -19,11 +19,10 @@ ghost use Rattle.encode.specs.Writing.{WroteGiven};
 use pen::bits32;
 use pen::no_zero;
 use pen::plus;
-use pen::put_bytes;
 use pen::put_half;
 use pen::put_head;
 use pen::put_text;
-use pen::put_word;
+use pen::put_value;
 use pen::values::size_of;
 use pen::verdict;
 use protocol::Encoded;
@@ -83,8 +82,7 @@ fn put_values(out: &mut [u8], at: usize, lengths: &[i32], joined: &[u8]) -> usiz
     while i < lengths.len() {
         let n = lengths[i];
         let e = j + size_of(n);
-        p = put_word(out, p, bits32(n));
-        p = put_bytes(out, p, &joined[j..e]);
+        p = put_value(out, p, bits32(n), &joined[j..e]);
         j = e;
         i += 1;
     }

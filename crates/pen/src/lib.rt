@@ -3,12 +3,12 @@
 pub mod errors;
 pub mod values;
 
-ghost use Prim.Native.Nat.{_+_, _-_, _*_, _≤_, min};
+ghost use Prim.Native.Nat.{_+_, _-_, _*_, _/_, _%_, _≤_, min};
 ghost use mathlib.Core.Bool.{_&&_, true};
 ghost use mathlib.Core.List.{[], _++_, _∷_};
 ghost use mathlib.Core.Path.{_≡_};
 ghost use lib.Dec.{leb};
-ghost use lib.ListN.{length};
+ghost use lib.ListN.{drop, length, take};
 ghost use Rattle.protocol.specs.Bytes.{be, bitsOf, noZero};
 ghost use Rattle.protocol.specs.Encode.{items};
 ghost use Rattle.protocol.specs.Fields.{bytes, itemsBytes};
@@ -49,6 +49,25 @@ fn store_word(out: &mut [u8], at: usize, x: u32) -> usize
     store_byte(out, at, (x % 256) as u8)
 }
 
+// The same four bytes in the other order: a byte swap.
+fn turned(x: u32) -> u32
+    ensures { λ r. ⌜ r ≡ x % 256 * 16777216 + x / 256 % 256 * 65536 + x / 65536 % 256 * 256 + x / 16777216 ⌝ }
+{
+    x % 256 * 16777216 + x / 256 % 256 * 65536 + x / 65536 % 256 * 256 + x / 16777216
+}
+
+// As store_word. Beside other stores the compiler makes one store of these, and four of those.
+fn store_turned(out: &mut [u8], at: usize, x: u32) -> usize
+    requires { ⌜ at + 4 ≤ length (now out) ⌝ }
+    ensures { λ r. ⌜ Wrote (now (out .entry)) at (be 4 x) 4 (now (out .exit)) r ⌝ }
+{
+    let y = turned(x);
+    let at = store_byte(out, at, (y % 256) as u8);
+    let at = store_byte(out, at, (y / 256 % 256) as u8);
+    let at = store_byte(out, at, (y / 65536 % 256) as u8);
+    store_byte(out, at, (y / 16777216 % 256) as u8)
+}
+
 // The bits of a signed number, in two's complement.
 pub fn bits8(x: i8) -> u8
     ensures { λ r. ⌜ r ≡ bitsOf 1 x ⌝ }
@@ -82,7 +101,8 @@ pub fn bits32(x: i32) -> u32
 
 // ---- bytes and strings
 
-fn store_bytes(out: &mut [u8], at: usize, s: &[u8]) -> usize
+// One by one.
+fn store_each(out: &mut [u8], at: usize, s: &[u8]) -> usize
     requires { ⌜ at + length (now s) ≤ length (now out) ⌝ }
     ensures { λ r. ⌜ Wrote (now (out .entry)) at (now (s .entry)) (length (now (s .entry))) (now (out .exit)) r ⌝ }
 {
@@ -96,6 +116,70 @@ fn store_bytes(out: &mut [u8], at: usize, s: &[u8]) -> usize
     p
 }
 
+// So many bytes of s at once. All are read before any is stored: the compiler then needs no test whether the two slices meet.
+fn store_block(out: &mut [u8], at: usize, s: &[u8], from: usize, width: usize) -> usize
+    requires { ⌜ (at + width ≤ length (now out)) × (from + width ≤ length (now s)) × (width ≤ 64) ⌝ }
+    ensures { λ r. ⌜ Wrote (now (out .entry)) at (take width (drop from (now (s .entry)))) width (now (out .exit)) r ⌝ }
+{
+    let mut block = [0u8; 64];
+    store_each(&mut block, 0, &s[from..from + width]);
+    store_each(out, at, &block[..width])
+}
+
+// The first and the last bytes, so many of each: they may meet.
+fn store_ends(out: &mut [u8], at: usize, s: &[u8], width: usize) -> usize
+    requires { ⌜ (at + length (now s) ≤ length (now out)) × (width ≤ length (now s)) × (length (now s) ≤ width + width) × (width ≤ 64) ⌝ }
+    ensures { λ r. ⌜ Wrote (now (out .entry)) at (now (s .entry)) (length (now (s .entry))) (now (out .exit)) r ⌝ }
+{
+    let last = s.len() - width;
+    store_block(out, at, s, 0, width);
+    store_block(out, at + last, s, last, width)
+}
+
+// Blocks of 64, and the last 64.
+fn store_blocks(out: &mut [u8], at: usize, s: &[u8]) -> usize
+    requires { ⌜ (at + length (now s) ≤ length (now out)) × (64 ≤ length (now s)) ⌝ }
+    ensures { λ r. ⌜ Wrote (now (out .entry)) at (now (s .entry)) (length (now (s .entry))) (now (out .exit)) r ⌝ }
+{
+    let last = s.len() - 64;
+    let mut i = 0;
+    while i < last {
+        store_block(out, at + i, s, i, 64);
+        i += 64;
+    }
+    store_block(out, at + last, s, last, 64)
+}
+
+// Fewer than 16 bytes.
+fn store_short(out: &mut [u8], at: usize, s: &[u8]) -> usize
+    requires { ⌜ (at + length (now s) ≤ length (now out)) × (length (now s) ≤ 16) ⌝ }
+    ensures { λ r. ⌜ Wrote (now (out .entry)) at (now (s .entry)) (length (now (s .entry))) (now (out .exit)) r ⌝ }
+{
+    if 8 <= s.len() {
+        return store_ends(out, at, s, 8);
+    }
+    if 4 <= s.len() {
+        return store_ends(out, at, s, 4);
+    }
+    store_each(out, at, s)
+}
+
+fn store_bytes(out: &mut [u8], at: usize, s: &[u8]) -> usize
+    requires { ⌜ at + length (now s) ≤ length (now out) ⌝ }
+    ensures { λ r. ⌜ Wrote (now (out .entry)) at (now (s .entry)) (length (now (s .entry))) (now (out .exit)) r ⌝ }
+{
+    if s.len() < 16 {
+        return store_short(out, at, s);
+    }
+    if 64 <= s.len() {
+        return store_blocks(out, at, s);
+    }
+    if 32 <= s.len() {
+        return store_ends(out, at, s, 32);
+    }
+    store_ends(out, at, s, 16)
+}
+
 // A string, with its zero byte.
 fn store_text(out: &mut [u8], at: usize, s: &[u8]) -> usize
     requires { ⌜ at + length (now s) + 1 ≤ length (now out) ⌝ }
@@ -103,6 +187,28 @@ fn store_text(out: &mut [u8], at: usize, s: &[u8]) -> usize
 {
     let at = store_bytes(out, at, s);
     store_byte(out, at, 0)
+}
+
+// A number of four bytes, and bytes.
+fn store_value(out: &mut [u8], at: usize, x: u32, s: &[u8]) -> usize
+    requires { ⌜ at + (4 + length (now s)) ≤ length (now out) ⌝ }
+    ensures { λ r. ⌜ Wrote (now (out .entry)) at (be 4 x ++ now (s .entry)) (4 + length (now (s .entry))) (now (out .exit)) r ⌝ }
+{
+    let at = store_word(out, at, x);
+    store_bytes(out, at, s)
+}
+
+// Three pairs of numbers, of four bytes and of two.
+fn store_pairs(out: &mut [u8], at: usize, a: u32, b: u16, c: u32, d: u16, e: u32, f: u16) -> usize
+    requires { ⌜ at + 18 ≤ length (now out) ⌝ }
+    ensures { λ r. ⌜ Wrote (now (out .entry)) at (be 4 a ++ (be 2 b ++ (be 4 c ++ (be 2 d ++ (be 4 e ++ (be 2 f ++ [])))))) 18 (now (out .exit)) r ⌝ }
+{
+    let at = store_turned(out, at, a);
+    let at = store_half(out, at, b);
+    let at = store_turned(out, at, c);
+    let at = store_half(out, at, d);
+    let at = store_turned(out, at, e);
+    store_half(out, at, f)
 }
 
 pub fn no_zero(s: &[u8]) -> bool
@@ -198,7 +304,7 @@ fn store_head(out: &mut [u8], type_byte: u8, n: usize) -> usize
     ensures { λ r. ⌜ Wrote (now (out .entry)) 0 (header typed «type_byte» (n - 5)) 5 (now (out .exit)) r ⌝ }
 {
     let at = store_byte(out, 0, type_byte);
-    store_word(out, at, (n - 1) as u32)
+    store_turned(out, at, (n - 1) as u32)
 }
 
 // ---- the writers, for any place: each writes all or nothing
@@ -249,11 +355,30 @@ pub fn put_bytes(out: &mut [u8], at: usize, s: &[u8]) -> usize
     at
 }
 
+// A value: its length, as the bits x, and its bytes.
+pub fn put_value(out: &mut [u8], at: usize, x: u32, s: &[u8]) -> usize
+    ensures { λ r. ⌜ Put true (now (out .entry)) at (be 4 x ++ now (s .entry)) (4 + length (now (s .entry))) (now (out .exit)) r ⌝ }
+{
+    if room(true, out.len(), at, 4 + s.len()) {
+        return store_value(out, at, x, s);
+    }
+    at
+}
+
 pub fn put_text(out: &mut [u8], at: usize, s: &[u8]) -> usize
     ensures { λ r. ⌜ Put true (now (out .entry)) at (now (s .entry) ++ 0 ∷ []) (length (now (s .entry)) + 1) (now (out .exit)) r ⌝ }
 {
     if room(true, out.len(), at, s.len() + 1) {
         return store_text(out, at, s);
+    }
+    at
+}
+
+pub fn put_pairs(out: &mut [u8], at: usize, a: u32, b: u16, c: u32, d: u16, e: u32, f: u16) -> usize
+    ensures { λ r. ⌜ Put true (now (out .entry)) at (be 4 a ++ (be 2 b ++ (be 4 c ++ (be 2 d ++ (be 4 e ++ (be 2 f ++ [])))))) 18 (now (out .exit)) r ⌝ }
+{
+    if room(true, out.len(), at, 18) {
+        return store_pairs(out, at, a, b, c, d, e, f);
     }
     at
 }

@@ -1,6 +1,6 @@
 -- One field: its name's length, and its turn in a pass.
 use Prim.Native.Nat.{ℕ, _+_, _≤_, _<_}
-use mathlib.Core.Bool.{Bool, true, false, _&&_}
+use mathlib.Core.Bool.{Bool, true, false, cond, _&&_}
 use mathlib.Core.List.{List, [], _∷_, _++_}
 use mathlib.Core.Path.{_≡_, refl, _∙_, sym}
 use native.Mathlib.Omega.{arith}
@@ -17,7 +17,7 @@ use Rattle.pen.specs.Writing.{write, Wrote}
 use Rattle.pen.proofs.Laws.{_then_}
 use Rattle.pen.proofs.Lists.{and-left, and-right}
 use Rattle.rows.specs.declared.Pen.{Pen}
-use Rattle.rows.specs.Passes.{named, numbers, after, stepPen, stepOut}
+use Rattle.rows.specs.Passes.{passed, numbers, after, stepPen, stepOut}
 
 pub part-length : (xs : List ℕ) (s n : ℕ) → s + n ≤ length xs → length (take n (drop s xs)) ≡ n
 part-length xs s n h = omega (arith, length-take n (drop s xs), length-drop s xs)
@@ -36,33 +36,38 @@ unfolding itemBytes bytesOfEach atomBytes
 fielded f run table column size modifier format name rest =
     resized (name then rw (table, column, size, modifier, format) at rest) (omega arith)
 
-pub inside : (f : FieldDescription) (run : List ℕ) → named f run ≡ true → f .name .start + f .name .len ≤ length run
-unfolding named
-inside f run e = leb-true _ _ (and-left _ (noZero (take (f .name .len) (drop (f .name .start) run))) e)
+pub inside : (writing : Bool) (f : FieldDescription) (run : List ℕ) → passed writing f run ≡ true → f .name .start + f .name .len ≤ length run
+unfolding passed
+inside writing f run e = leb-true _ _ (and-left _ (cond writing true (noZero (take (f .name .len) (drop (f .name .start) run)))) e)
 
 -- what the code has found of a field: whether its name can be written, and the place after it
-module _ (c : Pen) (f : FieldDescription) (run : List ℕ) {able : Bool} {next : ℕ} (same : able ≡ named f run) (place : next ≡ after c f) where
+module _ (c : Pen) (f : FieldDescription) (run : List ℕ) {able : Bool} {next : ℕ} (same : able ≡ passed (c .writing) f run) (place : next ≡ after c f) where
   pub penned : record { at = next; ok = c .ok && able; writing = c .writing } ≡ stepPen c f run
   unfolding stepPen
   penned = rw (same, place) refl
 
-  pub roomy : (out : List ℕ) → c .writing && (able && leb next (length out)) ≡ true → length out < 18446744073709551615
+  pub roomy : (out : List ℕ) → able && leb next (length out) ≡ true → length out < 18446744073709551615
       → (f .name .start + f .name .len ≤ length run) × (c .at + (f .name .len + 19) ≤ length out)
   unfolding after
   roomy out t small =
-      let u : able && leb next (length out) ≡ true = and-right (c .writing) t in
-      let n : named f run ≡ true = sym same ∙ and-left able (leb next (length out)) u in
-      let l : next ≤ length out = leb-true _ _ (and-right able u) in
-      (inside f run n, omega (arith, l, place, small))
+      let n : passed (c .writing) f run ≡ true = sym same ∙ and-left able (leb next (length out)) t in
+      let l : next ≤ length out = leb-true _ _ (and-right able t) in
+      (inside (c .writing) f run n, omega (arith, l, place, small))
 
-  pub put : (out : List ℕ) {left : List ℕ} → c .writing && (able && leb next (length out)) ≡ true → left ≡ write out (c .at) (itemBytes rowField (rowFieldGiven f run)) → left ≡ stepOut c f run out
+  pub put : (out : List ℕ) {left : List ℕ} → c .writing ≡ true → able && leb next (length out) ≡ true → left ≡ write out (c .at) (itemBytes rowField (rowFieldGiven f run)) → left ≡ stepOut c f run out
   unfolding stepOut
-  put out t w =
-      let u : c .writing && (named f run && leb (after c f) (length out)) ≡ true = rw (same, place) at t in
-      rw u w
+  put out w t e =
+      let u : passed (c .writing) f run && leb (after c f) (length out) ≡ true = rw (same, place) at t in
+      let v : c .writing && (passed (c .writing) f run && leb (after c f) (length out)) ≡ true = (λ j. w j && u j) in
+      rw v e
 
-  pub kept : (out : List ℕ) → c .writing && (able && leb next (length out)) ≡ false → out ≡ stepOut c f run out
+  pub short : (out : List ℕ) → c .writing ≡ true → able && leb next (length out) ≡ false → out ≡ stepOut c f run out
   unfolding stepOut
-  kept out t =
-      let u : c .writing && (named f run && leb (after c f) (length out)) ≡ false = rw (same, place) at t in
-      rw u refl
+  short out w t =
+      let u : passed (c .writing) f run && leb (after c f) (length out) ≡ false = rw (same, place) at t in
+      let v : c .writing && (passed (c .writing) f run && leb (after c f) (length out)) ≡ false = (λ j. w j && u j) in
+      rw v refl
+
+pub kept : (c : Pen) (f : FieldDescription) (run out : List ℕ) → c .writing ≡ false → out ≡ stepOut c f run out
+unfolding stepOut
+kept c f run out w = rw w refl

@@ -19,8 +19,8 @@ use Rattle.pen.specs.Writing.{write}
 use Rattle.pen.proofs.Laws.{write-append}
 use Rattle.pen.proofs.Lists.{and-true, and-left, and-right}
 use Rattle.rows.specs.declared.Pen.{Pen}
-use Rattle.rows.specs.Passes.{named, after, stepPen, stepOut, allPen, allOut}
-use Rattle.rows.proofs.Fields.{part-length, inside}
+use Rattle.rows.specs.Passes.{passed, named, after, stepPen, stepOut, allPen, allOut}
+use Rattle.rows.proofs.Fields.{part-length, inside, kept}
 
 -- ---- the content
 
@@ -64,7 +64,7 @@ and-swap true false false d = refl
 and-swap false b c d = refl
 
 pub able-rows : (rules : Rules) (fs : List FieldDescription) (run : List ℕ) → allInside fs run && itemsAble rules rowField (rows fs run) ≡ allNamed fs run
-unfolding itemsAble itemAble ableEach atomAble named
+unfolding itemsAble itemAble ableEach atomAble named passed
 able-rows rules [] run = refl
 able-rows rules (f ∷ fs) run =
     let e : noZero (take (f .name .len) (drop (f .name .start) run)) && true ≡ noZero (take (f .name .len) (drop (f .name .start) run)) = and-true _ in
@@ -90,10 +90,11 @@ length-rows-bytes (f ∷ fs) run e =
 
 -- ---- what a pass measures
 
-pub pen-ok : (fs : List FieldDescription) (run : List ℕ) (c : Pen) → allPen fs run c .ok ≡ c .ok && allNamed fs run
-unfolding allPen stepPen
-pen-ok [] run c = sym (and-true (c .ok))
-pen-ok (f ∷ fs) run c = pen-ok fs run (stepPen c f run) ∙ and-assoc (c .ok) (named f run) (allNamed fs run)
+pub pen-ok : (fs : List FieldDescription) (run : List ℕ) (c : Pen) → c .writing ≡ false → allPen fs run c .ok ≡ c .ok && allNamed fs run
+unfolding allPen stepPen named
+pen-ok [] run c w = sym (and-true (c .ok))
+pen-ok (f ∷ fs) run c w =
+    pen-ok fs run (stepPen c f run) w ∙ ap (λ (t : Bool). (c .ok && passed t f run) && allNamed fs run) w ∙ and-assoc (c .ok) (named f run) (allNamed fs run)
 
 pub pen-at : (fs : List FieldDescription) (run : List ℕ) (c : Pen) → c .at ≤ 18446744073709551615 → allPen fs run c .at ≡ min (c .at + total fs) 18446744073709551615
 unfolding allPen stepPen after
@@ -108,16 +109,21 @@ pub length-write : (d : List ℕ) (p : ℕ) (xs : List ℕ) → length (write d 
 length-write d p [] = refl
 length-write d p (x ∷ xs) = length-write (set d p x) (p + 1) xs ∙ length-set d p x
 
-step-kept : (c : Pen) (f : FieldDescription) (run out : List ℕ) → c .writing ≡ false → stepOut c f run out ≡ out
-unfolding stepOut
-step-kept c f run out e = rw e refl
+-- a name that was looked at is not looked at again
+again : (t : Bool) (f : FieldDescription) (run : List ℕ) → named f run ≡ true → passed t f run ≡ true
+unfolding named passed
+again false f run e = e
+again true f run e =
+    let a = leb (f .name .start + f .name .len) (length run) in
+    and-true a ∙ and-left a (noZero (take (f .name .len) (drop (f .name .start) run))) e
 
 step-written : (c : Pen) (f : FieldDescription) (run out : List ℕ) → c .writing ≡ true → named f run ≡ true → after c f ≤ length out
     → stepOut c f run out ≡ write out (c .at) (itemBytes rowField (rowFieldGiven f run))
 unfolding stepOut
 step-written c f run out w n h =
     let l = le-leb (after c f) (length out) h in
-    let u : c .writing && (named f run && leb (after c f) (length out)) ≡ true = (λ j. w j && (n j && l j)) in
+    let m = again (c .writing) f run n in
+    let u : c .writing && (passed (c .writing) f run && leb (after c f) (length out)) ≡ true = (λ j. w j && (m j && l j)) in
     rw u refl
 
 -- a pass that does not write
@@ -125,7 +131,7 @@ pub nothing-written : (fs : List FieldDescription) (run out : List ℕ) (c : Pen
 unfolding allOut stepPen
 nothing-written [] run out c e = refl
 nothing-written (f ∷ fs) run out c e =
-    ap (λ (o : List ℕ). allOut fs run o (stepPen c f run)) (step-kept c f run out e) ∙ nothing-written fs run out (stepPen c f run) e
+    ap (λ (o : List ℕ). allOut fs run o (stepPen c f run)) (sym (kept c f run out e)) ∙ nothing-written fs run out (stepPen c f run) e
 
 -- one that does, with room for all
 pub all-written : (fs : List FieldDescription) (run out : List ℕ) (c : Pen) → c .writing ≡ true → allNamed fs run ≡ true → c .at + total fs ≤ length out → length out < 18446744073709551615
@@ -136,7 +142,7 @@ all-written (f ∷ fs) run out c w e h l =
     let x = itemBytes rowField (rowFieldGiven f run) in
     let rest = itemsBytes rowField (rows fs run) in
     let ok : named f run ≡ true = and-left (named f run) (allNamed fs run) e in
-    let n : length x ≡ f .name .len + 19 = length-field f run (inside f run ok) in
+    let n : length x ≡ f .name .len + 19 = length-field f run (inside true f run (again true f run ok)) in
     let at : after c f ≡ c .at + length x = omega (arith, n) in
     let long : length (write out (c .at) x) ≡ length out = length-write out (c .at) x in
     let later = all-written fs run (write out (c .at) x) (stepPen c f run) w (and-right (named f run) e) (omega (arith, long, at, n)) (omega (arith, long)) in

@@ -15,9 +15,12 @@ use Rattle.protocol.specs.WellFormed.{header}
 use Rattle.pen.specs.Writing.{verdictOf, write}
 use Rattle.rows.specs.declared.Pen.{Pen}
 
--- a field's name stands in the run and has no zero byte
+-- a field's name stands in the run and, for the pass that measures, has no zero byte
+unfoldable pub passed : Bool → FieldDescription → List ℕ → Bool
+passed writing f run = leb (f .name .start + f .name .len) (length run) && cond writing true (noZero (take (f .name .len) (drop (f .name .start) run)))
+
 unfoldable pub named : FieldDescription → List ℕ → Bool
-named f run = leb (f .name .start + f .name .len) (length run) && noZero (take (f .name .len) (drop (f .name .start) run))
+named f run = passed false f run
 
 -- the numbers of a field, as the bytes of an item's atoms are joined
 abbrev pub numbers : ℕ → ℕ → ℕ → ℕ → ℕ → ℕ → List ℕ
@@ -28,12 +31,12 @@ unfoldable pub after : Pen → FieldDescription → ℕ
 after c f = min (c .at + (f .name .len + 19)) 18446744073709551615
 
 unfoldable pub stepPen : Pen → FieldDescription → List ℕ → Pen
-stepPen c f run = record { at = after c f; ok = c .ok && named f run; writing = c .writing }
+stepPen c f run = record { at = after c f; ok = c .ok && passed (c .writing) f run; writing = c .writing }
 
--- a field is written where the pen writes, its name can be written and there is room
+-- a field is written where the pen writes, its name stands in the run and there is room
 unfoldable pub stepOut : Pen → FieldDescription → List ℕ → List ℕ → List ℕ
 stepOut c f run out =
-    cond (c .writing && (named f run && leb (after c f) (length out))) (write out (c .at) (itemBytes rowField (rowFieldGiven f run))) out
+    cond (c .writing && (passed (c .writing) f run && leb (after c f) (length out))) (write out (c .at) (itemBytes rowField (rowFieldGiven f run))) out
 
 unfoldable pub allPen : List FieldDescription → List ℕ → Pen → Pen
 allPen [] run c = c

@@ -14,8 +14,8 @@ use pen::no_zero;
 use pen::plus;
 use pen::put_half;
 use pen::put_head;
+use pen::put_pairs;
 use pen::put_text;
-use pen::put_word;
 use pen::verdict;
 use protocol::Encoded;
 use protocol::data::FieldDescription;
@@ -29,8 +29,9 @@ pub struct Pen {
     pub writing: bool,
 }
 
-fn name_able(f: FieldDescription, run: &[u8]) -> bool
-    ensures { λ r. ⌜ r ≡ P.named f (now (run .entry)) ⌝ }
+// Whether a pass may go on past a field. The pass that writes comes after one that has looked at every byte of the names.
+fn name_able(f: FieldDescription, run: &[u8], writing: bool) -> bool
+    ensures { λ r. ⌜ r ≡ P.passed writing f (now (run .entry)) ⌝ }
 {
     let start = f.name.start;
     let len = f.name.len;
@@ -39,6 +40,9 @@ fn name_able(f: FieldDescription, run: &[u8]) -> bool
     }
     if run.len() - start < len {
         return false;
+    }
+    if writing {
+        return true;
     }
     no_zero(&run[start..start + len])
 }
@@ -65,12 +69,7 @@ fn put_numbers(
     requires { ⌜ at + 18 ≤ length (now out) ⌝ }
     ensures { λ r. ⌜ Wrote (now (out .entry)) at (P.numbers table column «type_id» size modifier format) 18 (now (out .exit)) r ⌝ }
 {
-    let at = put_word(out, at, table);
-    let at = put_half(out, at, column);
-    let at = put_word(out, at, type_id);
-    let at = put_half(out, at, size);
-    let at = put_word(out, at, modifier);
-    put_half(out, at, format)
+    put_pairs(out, at, table, column, type_id, size, modifier, format)
 }
 
 // One field: its name, a zero byte and the numbers.
@@ -91,18 +90,26 @@ fn put_field(f: FieldDescription, run: &[u8], out: &mut [u8], at: usize) -> usiz
 fn step(c: Pen, f: FieldDescription, run: &[u8], out: &mut [u8]) -> Pen
     ensures { λ r. ⌜ (r ≡ P.stepPen c f (now (run .entry))) × (now (out .exit) ≡ P.stepOut c f (now (run .entry)) (now (out .entry))) ⌝ }
 {
-    let able = name_able(f, run);
     let after = plus(c.at, plus(f.name.len, 19));
-    let next = Pen {
+    if c.writing {
+        let able = name_able(f, run, c.writing);
+        let next = Pen {
+            at: after,
+            ok: c.ok & able,
+            writing: c.writing,
+        };
+        if able & (after <= out.len()) {
+            put_field(f, run, out, c.at);
+            return next;
+        }
+        return next;
+    }
+    let able = name_able(f, run, c.writing);
+    Pen {
         at: after,
         ok: c.ok & able,
         writing: c.writing,
-    };
-    if c.writing & (able & (after <= out.len())) {
-        put_field(f, run, out, c.at);
-        return next;
     }
-    next
 }
 
 // A pass over all fields. Walked by hand: a lent slice of structs is read.

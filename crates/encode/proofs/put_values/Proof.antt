@@ -55,31 +55,27 @@ right c =
 add-e : tie.Need-add-e Inv-loop μ-loop
 add-e c = omega (arith, right c .0)
 
-part-put-bytes-end : tie.Need-part-put-bytes-end Inv-loop μ-loop
-part-put-bytes-end c = omega (arith, right (c .before .before .before .before .before .before) .0)
+part-put-value-end : tie.Need-part-put-value-end Inv-loop μ-loop
+part-put-value-end c = omega (arith, right (c .before .before) .0)
 
 loop-again : tie.Need-loop-again Inv-loop μ-loop
 loop-again c =
     let b = c .before .before in
-    let w = b .before .before .before .before .before in
-    let k = w .before .before .before in
+    let k = b .before .before .before .before in
     let q = k .before .before .before .loop in
     let z = k .before .before .before .before .before .before .before .before .before .before in
     let a = z .args in
     let r = right k in
     let h = k .before .before .before .before .before .before .put-half .ensures .fits refl (omega (arith, z .pre .0)) in
-    let u = w .put-word .ensures .fits refl (omega (arith, r .0, h .place, same-size h)) in
-    let t = b .put-bytes .ensures .fits refl (simp (length-take, length-drop) (omega (arith, r .0, u .place))) in
+    let t = b .put-value .ensures .fits refl (simp (length-take, length-drop) (omega (arith, r .0, h .place, same-size h))) in
     let p = simp (length-take, length-drop) at (t .place) in
-    let v = values-more (a .lengths .now) (a .joined .now) (q .i) (q .j) (k .before .before .loop-test .taken) (k .before .n .given) (w .before .bits32 .ensures) (k .size-of .ensures) in (
+    let v = values-more (a .lengths .now) (a .joined .now) (q .i) (q .j) (k .before .before .loop-test .taken) (k .before .n .given) (b .before .before .bits32 .ensures) (k .size-of .ensures) in (
       search needs,
       omega (arith, r .0),
-      omega (arith, r .0, u .place),
+      omega (arith, r .0, p),
       omega arith,
       r .1,
-      turn (valuesBytes (drop (q .i + 1) (a .lengths .now)) (drop (q .j + k .size-of .result) (a .joined .now)))
-          (u then t)
-          (ap (write (q .out) (q .p)) (sym v) ∙ q .inv .5),
+      turn (valuesBytes (drop (q .i + 1) (a .lengths .now)) (drop (q .j + k .size-of .result) (a .joined .now))) t (ap (write (q .out) (q .p)) (sym v) ∙ q .inv .5),
     )
 
 returns : tie.Need-returns Inv-loop μ-loop
@@ -104,10 +100,9 @@ put-values-spec =
     (λ c κs. search needs)
     add-e
     (λ c κs. search needs)
-    (λ c κs. search needs)
     (λ c. search needs)
     (λ c. search needs)
-    part-put-bytes-end
+    part-put-value-end
     (λ c κs. search needs)
     (λ c. search needs)
     (λ c. search needs)

@@ -15,7 +15,7 @@ returns c =
     let a = b .before .before .before .before in
     let n = a .before .before .before .args .n in
     let e : 4 + (n - 5) ≡ n - 1 = omega arith in
-    rw e (a .store-byte .ensures then b .store-word .ensures)
+    rw e (a .store-byte .ensures then b .store-turned .ensures)
 
 pub store-head-spec : {M : Type 1} → statement M
 store-head-spec =

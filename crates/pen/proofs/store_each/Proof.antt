@@ -1,4 +1,4 @@
--- `pen::store_bytes` meets its contract.
+-- `pen::store_each` meets its contract.
 use Prim.Native.Nat.{_+_, _-_, _≤_}
 use mathlib.Core.Path.{_≡_, refl, ap, _∙_, sym}
 use native.Mathlib.Omega.{arith}
@@ -6,8 +6,8 @@ use borrow.Author.Needs.{needs}
 use lib.ListN.{length, drop}
 use Rattle.pen.specs.Writing.{write}
 use Rattle.pen.proofs.Laws.{drop-more, drop-end}
-use Rattle.pen.proofs.store_bytes.Statement.{statement}
-use Rattle.pen.proofs.store_bytes.Tie as tie
+use Rattle.pen.proofs.store_each.Statement.{statement}
+use Rattle.pen.proofs.store_each.Tie as tie
 
 -- what is left to write
 abbrev Inv-loop : tie.InvT-loop
@@ -33,8 +33,8 @@ returns c =
       place = omega arith;
     }
 
-pub store-bytes-spec : {M : Type 1} → statement M
-store-bytes-spec =
+pub store-each-spec : {M : Type 1} → statement M
+store-each-spec =
     tie.close
     (tie.spec
     Inv-loop
