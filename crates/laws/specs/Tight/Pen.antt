@@ -30,6 +30,8 @@ pub record PenTight : Type 0 where
   pub «put_word» : (out : List ℕ) (at : ℕ) (x : ℕ) → DeterminesBoth (λ (r : ℕ) (out′ : List ℕ). Put true out at (be 4 x) 4 out′ r)
   pub «put_bytes» : (out : List ℕ) (at : ℕ) (s : List ℕ) → DeterminesBoth (λ (r : ℕ) (out′ : List ℕ). Put true out at s (length s) out′ r)
   pub «put_text» : (out : List ℕ) (at : ℕ) (s : List ℕ) → DeterminesBoth (λ (r : ℕ) (out′ : List ℕ). Put true out at (s ++ 0 ∷ []) (length s + 1) out′ r)
+  pub «put_value» : (out : List ℕ) (at : ℕ) (x : ℕ) (s : List ℕ) → DeterminesBoth (λ (r : ℕ) (out′ : List ℕ). Put true out at (be 4 x ++ s) (4 + length s) out′ r)
+  pub «put_pairs» : (out : List ℕ) (at a b c d e f : ℕ) → DeterminesBoth (λ (r : ℕ) (out′ : List ℕ). Put true out at (be 4 a ++ (be 2 b ++ (be 4 c ++ (be 2 d ++ (be 4 e ++ (be 2 f ++ [])))))) 18 out′ r)
   pub «put_oids» : (out : List ℕ) (at : ℕ) (xs : List ℕ) → DeterminesBoth (λ (r : ℕ) (out′ : List ℕ). Put (leb (length xs) 32767) out at (bytes oids (items xs)) (2 + 4 * length xs) out′ r)
   pub «put_formats» : (out : List ℕ) (at : ℕ) (xs : List ℤ) → DeterminesBoth (λ (r : ℕ) (out′ : List ℕ). Put (leb (length xs) 32767) out at (bytes formats (items xs)) (2 + 2 * length xs) out′ r)
   pub «put_head» : (out : List ℕ) («type_byte» : ℕ) (n : ℕ) → DeterminesBoth (λ (r : ℕ) (out′ : List ℕ). Put (leb 5 n && leb n 1048577) out 0 (header typed «type_byte» (n - 5)) 5 out′ r)
