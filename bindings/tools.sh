@@ -1,4 +1,4 @@
-# Read by run, rust/test and c/test, which set `bindings`, this folder, and `name`, who speaks. It sets what they build and run with.
+# Read by run, rust/test, c/test and compare/make, which set `bindings`, this folder, and `name`, who speaks. It sets what they build and run with.
 root=$(dirname "$bindings")
 tools=$root/compare/build
 logs=$bindings/build
@@ -34,10 +34,7 @@ machine_tools() {
 archives() {
     if [ -z "${TUSWERAM_LIB:-}" ]; then
         command -v rt >/dev/null 2>&1 || skip "no command rt, and TUSWERAM_LIB names no folder with libhost.a and libparts.a"
-        (cd "$root" && rt staticlib host && rt staticlib parts) >"$logs/staticlib.log" 2>&1 || {
-            tail -n 5 "$logs/staticlib.log"
-            stop "the library is not proved: bindings/build/staticlib.log"
-        }
+        "$bindings/archives" || stop "there are no archives to link"
         TUSWERAM_LIB=$root/target/staticlib
     fi
     for archive in libhost.a libparts.a; do

@@ -23,3 +23,4 @@ pub mod InOrder
 pub mod RowEntries
 pub mod Encoders
 pub mod Tight
+pub mod Rejected

@@ -16,7 +16,8 @@ use Rattle.protocol.specs.declared.Rules.{Rules}
 use Rattle.protocol.specs.declared.data.FieldDescription.{FieldDescription}
 use Rattle.protocol.specs.Bytes.{Bytes}
 use Rattle.protocol.specs.Each.{slotsOfEach}
-use Rattle.protocol.specs.Encode.{items, valuesGiven, errorFieldsGiven, rowFieldGiven, rowFieldsGiven, encodedBy, writtenBy, Encodes}
+use Rattle.protocol.specs.Encode.{items, valuesGiven, errorFieldsGiven, rowFieldGiven, rowFieldsGiven, encodedBy, Encodes}
+use Rattle.protocol.specs.Encode.{writtenBy}
 use Rattle.protocol.specs.Fields.{ItemContent, ItemsInRange, bytes, slot}
 use Rattle.protocol.specs.Kinds.{Kind, Mode, modes, IsIn, oid, format, nullable, rowField, errorField}
 use Rattle.protocol.specs.Refusals.{lengthAboveLimit, outputTooShort, notRepresentable}
@@ -33,8 +34,12 @@ pub record Outcome : Type 0 where
 abbrev pub Encoder : Type 0
 Encoder = (m : Mode) (k : Kind) → Option (Contents k) → List ℕ → Outcome
 
+-- one that answers as it should, and leaves what `written` says of its answer
+abbrev pub encoderWith : ((m : Mode) (k : Kind) → Option (Contents k) → Encoded → List ℕ → List ℕ) → Encoder
+encoderWith written m k given out = record { answer = encodedBy m k given (length out); output = written m k given (encodedBy m k given (length out)) out }
+
 abbrev pub theEncoder : Encoder
-theEncoder m k given out = record { answer = encodedBy m k given (length out); output = writtenBy m k given (encodedBy m k given (length out)) out }
+theEncoder = encoderWith writtenBy
 
 -- 0. Every encoder's contract says that it does what `theEncoder` does.
 abbrev pub Contracts : Encoder → Type 0

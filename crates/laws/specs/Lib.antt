@@ -10,4 +10,6 @@ pub mod Arguments
 pub mod EncodeStatements
 pub mod ReaderStatements
 pub mod Encoders
+pub mod Shortcuts
+pub mod Rejected
 pub mod Tight

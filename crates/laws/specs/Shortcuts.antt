@@ -1,0 +1,85 @@
+-- The useless builds and the tempting shortcuts that document 01 names, and a few more: what a decoder, an element call or an encoder must not do.
+-- They are here to be refused: Rejected.antt says which statement each breaks, and the must-fail edits put each in the place of what is proved.
+use Prim.Native.Nat.{ℕ}
+use mathlib.Core.Bool.{cond}
+use mathlib.Core.List.{List, _++_}
+use mathlib.Core.Option.{Option, some, none}
+use lib.Dec.{eqb}
+use lib.ListN.{length, take, drop}
+use Rattle.protocol.specs.declared.Decoded.the-variants as D
+use Rattle.protocol.specs.declared.Decoded.{Decoded}
+use Rattle.protocol.specs.declared.Element.{Element}
+use Rattle.protocol.specs.declared.Encoded.the-variants as N
+use Rattle.protocol.specs.declared.Encoded.{Encoded}
+use Rattle.protocol.specs.declared.Message.the-variants as M
+use Rattle.protocol.specs.declared.Rules.{Rules}
+use Rattle.protocol.specs.Decode.{Header, more, refuse, framed, headerOf, bodyOf, decodedBy, decodeOf}
+use Rattle.protocol.specs.Elements.{elementOf}
+use Rattle.protocol.specs.Encode.{writtenBy}
+use Rattle.protocol.specs.Kinds.{Kind, Mode}
+use Rattle.protocol.specs.Refusals.{typeUnknown, lengthAboveLimit}
+use Rattle.protocol.specs.WellFormed.{Contents, frame}
+
+-- ---- decoders
+
+abbrev pub refusesEverything : Rules → List ℕ → Decoded
+refusesEverything rules s = D.Refused typeUnknown 0
+
+abbrev pub alwaysWaits : Rules → List ℕ → Decoded
+alwaysWaits rules s = D.NeedMore
+
+-- a single fixed record: Sync in five bytes, whatever is there
+abbrev pub fixedRecord : Rules → List ℕ → Decoded
+fixedRecord rules s = D.Record M.Sync 5
+
+-- every buffer is read as a frontend's
+abbrev pub ignoresTheMode : Rules → List ℕ → Decoded
+ignoresTheMode rules s = decodeOf (record { mode = 0 }) s
+
+-- an invented byte count
+abbrev five : Decoded → Decoded
+five (D.Record m n) = D.Record m 5
+five D.NeedMore = D.NeedMore
+five (D.Refused number place) = D.Refused number place
+
+abbrev pub inventedCount : Rules → List ℕ → Decoded
+inventedCount rules s = five (decodeOf rules s)
+
+-- a string bounded by the buffer and not by the frame: the body is read from all that is there
+abbrev inTheBuffer : Rules → List ℕ → Header → Decoded
+inTheBuffer rules s more = D.NeedMore
+inTheBuffer rules s (refuse number place) = D.Refused number place
+inTheBuffer rules s (framed k start end) = decodedBy (bodyOf rules k s start) end
+
+abbrev pub boundedByTheBuffer : Rules → List ℕ → Decoded
+boundedByTheBuffer rules s = inTheBuffer rules s (headerOf rules s)
+
+-- the body awaited before a hopeless length is refused
+abbrev awaited : Decoded → Decoded
+awaited (D.Record m n) = D.Record m n
+awaited D.NeedMore = D.NeedMore
+awaited (D.Refused number place) = cond (eqb number lengthAboveLimit) D.NeedMore (D.Refused number place)
+
+abbrev pub waitsForTheBody : Rules → List ℕ → Decoded
+waitsForTheBody rules s = awaited (decodeOf rules s)
+
+-- ---- an element call
+
+abbrev pub firstForEachNumber : Rules → List ℕ → ℕ → ℕ → Element
+firstForEachNumber rules s l n = elementOf rules s l 0
+
+-- ---- what an encoder leaves in the output, in the place of writtenBy
+
+-- nothing is written, whatever is reported
+abbrev pub writesNothing : (m : Mode) (k : Kind) → Option (Contents k) → Encoded → List ℕ → List ℕ
+writesNothing m k given r out = out
+
+-- the bytes behind the frame are lost
+abbrev pub cutsTheOutput : (m : Mode) (k : Kind) → Option (Contents k) → Encoded → List ℕ → List ℕ
+cutsTheOutput m k given r out = writtenBy m k given r (take 1 out)
+
+-- the header is written before the output is found too short
+abbrev pub headerFirst : (m : Mode) (k : Kind) → Option (Contents k) → Encoded → List ℕ → List ℕ
+headerFirst m k none r out = out
+headerFirst m k (some c) (N.Done n) out = frame (m .envelope) k c ++ drop n out
+headerFirst m k (some c) (N.Refused number place) out = take (length out) (take 5 (frame (m .envelope) k c)) ++ drop 5 out
