@@ -115,5 +115,6 @@ rejected = record {
   headerFirst = λ h. no (let e = h backend parseComplete (some tt) (0 ∷ []) .refused 9 0 refl in cc);
   alwaysWaits = λ h. no (let e = waits-too S.alwaysWaits h (mode 0) hopeless refl in cc);
   ignoresTheMode = λ h. no (let e = sound-takes S.ignoresTheMode h (mode 1) a-sync M.Sync 5 (bytes-by a-sync refl) refl in cc);
+  refusesToWrite = λ h. h backend parseComplete (some tt) five-bytes .ten .0 refl (tt, refl, refl);
   cutsTheOutput = λ h. no (let e = h backend parseComplete (some tt) (0 ∷ 0 ∷ []) .refused 9 0 refl in cc);
 }

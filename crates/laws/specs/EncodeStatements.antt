@@ -34,12 +34,12 @@ pub record Outcome : Type 0 where
 abbrev pub Encoder : Type 0
 Encoder = (m : Mode) (k : Kind) → Option (Contents k) → List ℕ → Outcome
 
--- one that answers as it should, and leaves what `written` says of its answer
-abbrev pub encoderWith : ((m : Mode) (k : Kind) → Option (Contents k) → Encoded → List ℕ → List ℕ) → Encoder
-encoderWith written m k given out = record { answer = encodedBy m k given (length out); output = written m k given (encodedBy m k given (length out)) out }
+-- one that answers by `answered` of the output's room, and leaves what `written` says of that answer
+abbrev pub encoderWith : ((m : Mode) (k : Kind) → Option (Contents k) → ℕ → Encoded) → ((m : Mode) (k : Kind) → Option (Contents k) → Encoded → List ℕ → List ℕ) → Encoder
+encoderWith answered written m k given out = record { answer = answered m k given (length out); output = written m k given (answered m k given (length out)) out }
 
 abbrev pub theEncoder : Encoder
-theEncoder = encoderWith writtenBy
+theEncoder = encoderWith encodedBy writtenBy
 
 -- 0. Every encoder's contract says that it does what `theEncoder` does.
 abbrev pub Contracts : Encoder → Type 0

@@ -17,7 +17,7 @@ use Rattle.protocol.specs.Decode.{Header, more, refuse, framed, headerOf, bodyO
 use Rattle.protocol.specs.Elements.{elementOf}
 use Rattle.protocol.specs.Encode.{writtenBy}
 use Rattle.protocol.specs.Kinds.{Kind, Mode}
-use Rattle.protocol.specs.Refusals.{typeUnknown, lengthAboveLimit}
+use Rattle.protocol.specs.Refusals.{typeUnknown, lengthAboveLimit, notRepresentable}
 use Rattle.protocol.specs.WellFormed.{Contents, frame}
 
 -- ---- decoders
@@ -68,7 +68,12 @@ waitsForTheBody rules s = awaited (decodeOf rules s)
 abbrev pub firstForEachNumber : Rules → List ℕ → ℕ → ℕ → Element
 firstForEachNumber rules s l n = elementOf rules s l 0
 
--- ---- what an encoder leaves in the output, in the place of writtenBy
+-- ---- what an encoder answers, in the place of encodedBy
+
+abbrev pub refusesToWrite : (m : Mode) (k : Kind) → Option (Contents k) → ℕ → Encoded
+refusesToWrite m k given room = N.Refused notRepresentable 0
+
+-- ---- what it leaves in the output, in the place of writtenBy
 
 -- nothing is written, whatever is reported
 abbrev pub writesNothing : (m : Mode) (k : Kind) → Option (Contents k) → Encoded → List ℕ → List ℕ
