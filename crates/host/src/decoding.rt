@@ -1,8 +1,8 @@
 // Decoding, for a host.
 ghost use mathlib.Core.Path.{_≡_};
 ghost use Rattle.protocol.specs.Decode.{decodeOf};
-ghost use Rattle.host.specs.LaidOut.{gssNumber, laidOut, numbersOf, recordOut, sslNumber};
-use crate::rows;
+ghost use Rattle.layout.specs.LaidOut.{gssNumber, laidOut, numbersOf, recordOut, sslNumber};
+use layout::rows;
 use protocol::Decoded;
 use protocol::Message;
 use protocol::response::GssEncResponse;

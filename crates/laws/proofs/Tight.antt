@@ -56,6 +56,7 @@ use Rattle.laws.specs.Tight.Codec.{CodecTight}
 use Rattle.laws.specs.Tight.Decode.{DecodeTight}
 use Rattle.laws.specs.Tight.Element.{ElementTight}
 use Rattle.laws.specs.Tight.Encode.{EncodeTight}
+use Rattle.laws.specs.Tight.Layout.{LayoutTight}
 use Rattle.laws.specs.Tight.Host.{HostTight}
 use Rattle.laws.specs.Tight.Items.{ItemsTight}
 use Rattle.laws.specs.Tight.Listing.{ListingTight}
@@ -306,13 +307,9 @@ encode = record {
   «gss_enc_response» = λ _ _ r s x y p q. encodes-one p q;
 }
 
-pub host : HostTight
-host = record {
+pub layout : LayoutTight
+layout = record {
   bits = λ _ r s p q. p ∙ sym q;
-  «tusweram_decode» = λ _ _ _ r s p q. p ∙ sym q;
-  «tusweram_encode» = λ _ _ _ _ _ _ _ r s x y p q. answers-one p q;
-  «tusweram_encode_lists» = λ _ _ _ _ _ _ _ _ _ _ r s x y p q. answers-one p q;
-  «tusweram_encode_row_description» = λ _ _ _ r s x y p q. answers-one p q;
   «need_more» = λ r s p q. p ∙ sym q;
   refused = λ _ _ r s p q. p ∙ sym q;
   none = λ _ _ r s p q. p ∙ sym q;
@@ -326,6 +323,14 @@ host = record {
   execute = λ _ _ r s p q. p ∙ sym q;
   notification = λ _ _ r s p q. p ∙ sym q;
   cancel = λ _ _ r s p q. p ∙ sym q;
+}
+
+pub host : HostTight
+host = record {
+  «tusweram_decode» = λ _ _ _ r s p q. p ∙ sym q;
+  «tusweram_encode» = λ _ _ _ _ _ _ _ r s x y p q. answers-one p q;
+  «tusweram_encode_lists» = λ _ _ _ _ _ _ _ _ _ _ r s x y p q. answers-one p q;
+  «tusweram_encode_row_description» = λ _ _ _ r s x y p q. answers-one p q;
 }
 
 pub items : ItemsTight

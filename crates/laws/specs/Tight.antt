@@ -16,6 +16,7 @@ pub mod Encode
 pub mod Reader
 pub mod Listing
 pub mod Parts
+pub mod Layout
 pub mod Host
 
 -- an answer

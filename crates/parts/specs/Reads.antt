@@ -15,7 +15,7 @@ use Rattle.protocol.specs.Reading.{Read, got, bad}
 use Rattle.reader.specs.Row.{lengthsOf, over, placesIn, rowBy, startsOf}
 use Rattle.reader.specs.declared.row.Row.the-variants as R
 use Rattle.reader.specs.declared.row.Row.{Row}
-use Rattle.host.specs.LaidOut.{fieldNumbers, list, needMoreOut, recordOut, refusedOut, span}
+use Rattle.layout.specs.LaidOut.{fieldNumbers, list, needMoreOut, recordOut, refusedOut, span}
 
 -- a value as an element is, with the next place for the bytes consumed
 unfoldable pub valueOut : Read (Option Span) → List ℕ

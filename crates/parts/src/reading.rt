@@ -4,7 +4,7 @@ ghost use Rattle.protocol.specs.Reading.{readValue};
 ghost use Rattle.codec.specs.Answers.{valueRead};
 ghost use Rattle.parts.specs.Reads.{LaysRow, rowOut, valueOut};
 use codec::Value;
-use host::rows;
+use layout::rows;
 use protocol::refusal::CUT;
 use protocol::refusal::NOT_ALLOWED;
 use reader::row::Row;

@@ -1,38 +1,16 @@
 -- The public functions of crate host: each one's contract, at two answers.
 use Prim.Native.Nat.{ℕ}
-use mathlib.Core.List.{List, [], _++_, _∷_}
+use mathlib.Core.List.{List}
 use mathlib.Core.Path.{_≡_}
 use lib.IntN.{ℤ}
-use Rattle.protocol.specs.Bytes.{bitsOf}
 use Rattle.protocol.specs.Decode.{decodeOf}
-use Rattle.protocol.specs.declared.List.{List as Slot}
-use Rattle.protocol.specs.declared.Span.{Span}
-use Rattle.protocol.specs.declared.cancel.CancelRequest.{CancelRequest}
 use Rattle.protocol.specs.declared.data.FieldDescription.{FieldDescription}
-use Rattle.protocol.specs.declared.extendedquery.Bind.{Bind}
-use Rattle.protocol.specs.declared.extendedquery.Execute.{Execute}
-use Rattle.protocol.specs.declared.extendedquery.Parse.{Parse}
-use Rattle.protocol.specs.declared.response.NotificationResponse.{NotificationResponse}
+use Rattle.layout.specs.LaidOut.{laidOut}
 use Rattle.host.specs.Asked.{Answers, asked, askedLists, askedRow}
-use Rattle.host.specs.LaidOut.{bindNumbers, laidOut, list, needMoreOut, recordOut, refusedOut, signed, span}
 use Rattle.laws.specs.Tight.{Determines, DeterminesBoth}
 
 pub record HostTight : Type 0 where
-  pub bits : (x : ℤ) → Determines (λ (r : ℕ). r ≡ bitsOf 4 x)
   pub «tusweram_decode» : (mode : ℕ) (buf : List ℕ) (out : List ℕ) → Determines (λ (out′ : List ℕ). out′ ≡ laidOut (decodeOf (record { mode = mode }) buf))
   pub «tusweram_encode» : (kind byte : ℕ) (first second : ℤ) (one two out : List ℕ) → DeterminesBoth (λ (r : ℕ) (out′ : List ℕ). Answers (asked kind byte first second one two) out r out′)
   pub «tusweram_encode_lists» : (kind : ℕ) (format : ℤ) (one two joined words : List ℕ) (lengths formats results : List ℤ) (out : List ℕ) → DeterminesBoth (λ (r : ℕ) (out′ : List ℕ). Answers (askedLists kind format one two joined words lengths formats results) out r out′)
   pub «tusweram_encode_row_description» : (fields : List FieldDescription) (run out : List ℕ) → DeterminesBoth (λ (r : ℕ) (out′ : List ℕ). Answers (askedRow fields run) out r out′)
-  pub «need_more» : Determines (λ (r : List ℕ). r ≡ needMoreOut 16)
-  pub refused : (number : ℕ) (place : ℕ) → Determines (λ (r : List ℕ). r ≡ refusedOut 16 number place)
-  pub none : (kind : ℕ) (n : ℕ) → Determines (λ (r : List ℕ). r ≡ recordOut n (kind ∷ []))
-  pub «one_number» : (kind : ℕ) (n : ℕ) (a : ℕ) → Determines (λ (r : List ℕ). r ≡ recordOut n (kind ∷ a ∷ []))
-  pub «one_span» : (kind : ℕ) (n : ℕ) (s : Span) → Determines (λ (r : List ℕ). r ≡ recordOut n (kind ∷ span s))
-  pub «one_list» : (kind : ℕ) (n : ℕ) (l : Slot) → Determines (λ (r : List ℕ). r ≡ recordOut n (kind ∷ list l))
-  pub target : (kind : ℕ) (n : ℕ) («target_type» : ℕ) (name : Span) → Determines (λ (r : List ℕ). r ≡ recordOut n (kind ∷ «target_type» ∷ span name))
-  pub copy : (kind : ℕ) (n : ℕ) (format : ℤ) (l : Slot) → Determines (λ (r : List ℕ). r ≡ recordOut n (kind ∷ signed format ++ list l))
-  pub parse : (n : ℕ) (m : Parse) → Determines (λ (r : List ℕ). r ≡ recordOut n (1 ∷ span (m .name) ++ span (m .query) ++ list (m .«type_oids»)))
-  pub bind : (n : ℕ) (m : Bind) → Determines (λ (r : List ℕ). r ≡ recordOut n (2 ∷ bindNumbers m))
-  pub execute : (n : ℕ) (m : Execute) → Determines (λ (r : List ℕ). r ≡ recordOut n (5 ∷ span (m .name) ++ signed (m .«max_rows»)))
-  pub notification : (n : ℕ) (m : NotificationResponse) → Determines (λ (r : List ℕ). r ≡ recordOut n (27 ∷ signed (m .pid) ++ span (m .channel) ++ span (m .payload)))
-  pub cancel : (n : ℕ) (m : CancelRequest) → Determines (λ (r : List ℕ). r ≡ recordOut n (28 ∷ signed (m .pid) ++ signed (m .«secret_key»)))

@@ -1,7 +1,7 @@
 -- `parts::elements::field` meets its contract: its numbers' bits are laid out.
 use mathlib.Core.Path.{refl}
 use mir.Syntax.{w16, w32}
-use Rattle.host.proofs.Signs.{passed}
+use Rattle.layout.proofs.Signs.{passed}
 use borrow.Author.Needs.{needs}
 use Rattle.parts.proofs.elements.field.Statement.{statement}
 use Rattle.parts.proofs.elements.field.Tie as tie

@@ -1,6 +1,6 @@
 -- `parts::elements::half` meets its contract: a narrow number's bits are those of the wider one.
 use mir.Syntax.{w16}
-use Rattle.host.proofs.Signs.{widens, wide-bits-of}
+use Rattle.layout.proofs.Signs.{widens, wide-bits-of}
 use borrow.Author.Needs.{needs}
 use Rattle.parts.proofs.elements.half.Statement.{statement}
 use Rattle.parts.proofs.elements.half.Tie as tie

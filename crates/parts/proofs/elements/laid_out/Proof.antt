@@ -1,7 +1,7 @@
 -- `parts::elements::laid_out` meets its contract: case by case of the answer.
 use mir.Syntax.{w16}
-use Rattle.host.specs.LaidOut.{elementOut}
-use Rattle.host.proofs.Signs.{passed}
+use Rattle.layout.specs.LaidOut.{elementOut}
+use Rattle.layout.proofs.Signs.{passed}
 use borrow.Author.Needs.{needs}
 use Rattle.parts.proofs.elements.laid_out.Statement.{statement}
 use Rattle.parts.proofs.elements.laid_out.Tie as tie

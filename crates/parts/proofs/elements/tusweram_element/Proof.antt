@@ -1,6 +1,6 @@
 -- `parts::elements::tusweram_element` meets its contract: what the element call answers, laid out.
 use mathlib.Core.Path.{ap, _∙_}
-use Rattle.host.specs.LaidOut.{elementOut}
+use Rattle.layout.specs.LaidOut.{elementOut}
 use borrow.Author.Needs.{needs}
 use Rattle.parts.proofs.elements.tusweram_element.Statement.{statement}
 use Rattle.parts.proofs.elements.tusweram_element.Tie as tie

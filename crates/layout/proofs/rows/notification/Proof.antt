@@ -1,10 +1,10 @@
--- `host::rows::notification` meets its contract: its number's bits are laid out.
+-- `layout::rows::notification` meets its contract: its number's bits are laid out.
 use mathlib.Core.Path.{refl}
 use mir.Syntax.{w32}
-use Rattle.host.proofs.Signs.{passed}
+use Rattle.layout.proofs.Signs.{passed}
 use borrow.Author.Needs.{needs}
-use Rattle.host.proofs.rows.notification.Statement.{statement}
-use Rattle.host.proofs.rows.notification.Tie as tie
+use Rattle.layout.proofs.rows.notification.Statement.{statement}
+use Rattle.layout.proofs.rows.notification.Tie as tie
 
 returns : tie.Need-returns
 returns c =

@@ -1,10 +1,10 @@
--- `host::rows::execute` meets its contract: its number's bits are laid out.
+-- `layout::rows::execute` meets its contract: its number's bits are laid out.
 use mathlib.Core.Path.{refl}
 use mir.Syntax.{w32}
-use Rattle.host.proofs.Signs.{passed}
+use Rattle.layout.proofs.Signs.{passed}
 use borrow.Author.Needs.{needs}
-use Rattle.host.proofs.rows.execute.Statement.{statement}
-use Rattle.host.proofs.rows.execute.Tie as tie
+use Rattle.layout.proofs.rows.execute.Statement.{statement}
+use Rattle.layout.proofs.rows.execute.Tie as tie
 
 returns : tie.Need-returns
 returns c = rw (← passed w32 (c .before .before .before .args .m .«max_rows») (c .before .struct-told .given .1 .0 .1) (c .bits .ensures)) refl

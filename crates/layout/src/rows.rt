@@ -1,7 +1,7 @@
 // An answer's row of 16 numbers, by the shape of its fields.
 ghost use mathlib.Core.List.{[], _∷_, _++_};
 ghost use mathlib.Core.Path.{_≡_};
-ghost use Rattle.host.specs.LaidOut.{bindNumbers, list, needMoreOut, recordOut, refusedOut, signed, span};
+ghost use Rattle.layout.specs.LaidOut.{bindNumbers, list, needMoreOut, recordOut, refusedOut, signed, span};
 use crate::bits::bits;
 use protocol::List;
 use protocol::Span;

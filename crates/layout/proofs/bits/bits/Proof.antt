@@ -1,9 +1,9 @@
--- `host::bits::bits` meets its contract: the bits of `pen`, made wider.
+-- `layout::bits::bits` meets its contract: the bits of `pen`, made wider.
 use borrow.Author.Needs.{needs}
 use mir.Syntax.{w32}
 use Rattle.pen.proofs.Signs.{bits-of}
-use Rattle.host.proofs.bits.bits.Statement.{statement}
-use Rattle.host.proofs.bits.bits.Tie as tie
+use Rattle.layout.proofs.bits.bits.Statement.{statement}
+use Rattle.layout.proofs.bits.bits.Tie as tie
 
 returns : tie.Need-returns
 returns c = bits-of w32 4 (c .before .args .x) (c .before .fits .x) (c .bits32 .ensures)
