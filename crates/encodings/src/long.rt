@@ -1,85 +1,56 @@
-// Messages at the limits of length and of number. More than two fields of a RowDescription cannot be given by value, so that its number
-// is not tried here at 32,768.
-use crate::SPARE;
+// Cases in which a byte is given many times.
+ghost use mathlib.Core.Path.{_≡_};
+ghost use lib.ListN.{length};
 use crate::calls;
-use crate::text::write;
+use crate::case;
+use crate::case::Case;
+use crate::case::MANY;
+use crate::case::ROOM;
+use protocol::Encoded;
 
-fn small_limit() {
-    write(b"# the length at the limit and one more: 8,192\n");
-    calls::command_complete(&mut [SPARE; 8200], &[b'a'; 8187]);
-    calls::command_complete(&mut [SPARE; 8200], &[b'a'; 8188]);
-    calls::command_complete(&mut [SPARE; 8193], &[b'a'; 8187]);
-    calls::command_complete(&mut [SPARE; 8192], &[b'a'; 8187]);
-}
-
-fn counts() {
-    write(b"# 32,767 elements and 32,768\n");
-    calls::parameter_description(&mut [SPARE; 131080], &[23; 32767]);
-    calls::parameter_description(&mut [SPARE; 131080], &[23; 32768]);
-    calls::parse(&mut [SPARE; 131080], b"", b"", &[23; 32767]);
-    calls::parse(&mut [SPARE; 131085], b"", b"", &[23; 32768]);
-}
-
-fn copy_counts() {
-    write(b"# the same where so many are above the limit: 4, and 10 is before it\n");
-    calls::copy_in_response(&mut [SPARE; 70], 0, &[0; 32767]);
-    calls::copy_in_response(&mut [SPARE; 70], 0, &[0; 32768]);
-}
-
-fn small_faults() {
-    write(b"# 10 and 4, 4 and 9, and all three\n");
-    calls::command_complete(&mut [SPARE; 8200], &[0; 8188]);
-    calls::command_complete(&mut [SPARE; 8192], &[b'a'; 8188]);
-    calls::command_complete(&mut [SPARE; 3], &[b'a'; 8188]);
-    calls::command_complete(&mut [SPARE; 3], &[0; 8188]);
-    calls::close(&mut [SPARE; 3], b'X', &[b'a'; 8187]);
-}
-
-// More than the largest frame.
-const ROOM: usize = 1048580;
-
-// Made by a call, and lent as an array: nothing then counts its bytes one by one.
-fn full(byte: u8) -> [u8; ROOM] {
+// The length is said, so that a part can be lent.
+pub fn full(byte: u8) -> [u8; ROOM]
+    ensures { λ r. ⌜ 1048580 ≡ length r ⌝ }
+{
     [byte; ROOM]
 }
 
-fn part(bytes: &[u8], count: usize) -> &[u8] {
-    if bytes.len() < count {
-        return &bytes[..0];
+fn full_words(word: u32) -> [u32; MANY]
+    ensures { λ r. ⌜ 32768 ≡ length r ⌝ }
+{
+    [word; MANY]
+}
+
+fn full_formats(format: i16) -> [i16; MANY]
+    ensures { λ r. ⌜ 32768 ≡ length r ⌝ }
+{
+    [format; MANY]
+}
+
+// So many words and formats, or, where the kind has no list, bytes.
+fn counted(mut case: Case) -> Case {
+    if case::has_list(case.kind) {
+        case.number_count = case.len;
+        case.format_count = case.len;
+        return case;
     }
-    &bytes[0..count]
+    case.one_len = case.len;
+    case
 }
 
-fn first(bytes: &[u8; ROOM], count: usize) -> &[u8] {
-    part(bytes, count)
-}
-
-fn put_data(out: &mut [u8; ROOM], data: &[u8]) {
-    calls::copy_data(out, data);
-}
-
-fn copy_data(count: usize) {
-    let mut out = full(SPARE);
-    let data = full(b'a');
-    put_data(&mut out, first(&data, count));
-}
-
-fn no_room(count: usize) {
-    let data = full(b'a');
-    calls::copy_data(&mut [SPARE; 40], first(&data, count));
-}
-
-fn large_limit() {
-    write(b"# the length at the limit and one more: 1,048,576; and 4 and 9\n");
-    copy_data(1048572);
-    copy_data(1048573);
-    no_room(1048573);
-}
-
-pub fn run() {
-    small_limit();
-    counts();
-    copy_counts();
-    small_faults();
-    large_limit();
+pub fn call(case: Case, out: &mut [u8]) -> Encoded {
+    let byte = (case.start % 256) as u8;
+    let given = case;
+    let bytes = full(byte);
+    let words = full_words(byte as u32);
+    let formats = full_formats(codec::signed16(byte as u16));
+    calls::call(
+        counted(case),
+        &bytes,
+        &words,
+        calls::first_numbers(&given.numbers, 0),
+        &formats,
+        &given.results,
+        out,
+    )
 }

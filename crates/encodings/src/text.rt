@@ -9,6 +9,10 @@ pub fn write(bytes: &[u8]) {
     io::write_all(STDOUT_FILENO, bytes);
 }
 
+pub fn write_letter(letter: u8) {
+    write(&[letter]);
+}
+
 fn write_number(n: usize) {
     io::print_decimal(STDOUT_FILENO, n as u64);
 }
@@ -19,7 +23,7 @@ fn wide(byte: u8) -> u64 {
 
 fn write_hex(bytes: &[u8]) {
     for i in 0..bytes.len() {
-        write(b" ");
+        write_letter(b' ');
         io::print_hex(STDOUT_FILENO, wide(bytes[i]), 2);
     }
 }
@@ -38,14 +42,14 @@ fn write_sums(bytes: &[u8]) {
     io::print_decimal(STDOUT_FILENO, sums);
 }
 
-fn write_answer(encoded: Encoded) {
+fn write_encoded(encoded: Encoded) {
     match encoded {
         Encoded::Done(size) => {
-            write(b" done ");
+            write(b" = done ");
             write_number(size);
         }
         Encoded::Refused(number, place) => {
-            write(b" refused ");
+            write(b" = refused ");
             write_number(number as usize);
             write(b" at ");
             write_number(place);
@@ -53,17 +57,15 @@ fn write_answer(encoded: Encoded) {
     }
 }
 
-// A line: the kind, the answer, the room, and the output as it is after the call.
-pub fn write_line(kind: &[u8], encoded: Encoded, out: &[u8]) {
-    write(kind);
-    write_answer(encoded);
+// What stands behind a case: the answer, the room, and the output as it is after the call.
+pub fn write_answer(encoded: Encoded, out: &[u8]) {
+    write_encoded(encoded);
     write(b" of ");
     write_number(out.len());
-    write(b":");
+    write_letter(b':');
     if SHORT < out.len() {
         write_sums(out);
     } else {
         write_hex(out);
     }
-    write(b"\n");
 }

@@ -5,10 +5,10 @@ use Rattle.encodings.proofs.text.write_hex.Statement.{statement}
 use Rattle.encodings.proofs.text.write_hex.Tie as tie
 
 abbrev Inv-loop : tie.InvT-loop
-Inv-loop bytes i₀ t3 i-end i = Unit {0}
+Inv-loop bytes i₀ i-end i = Unit {0}
 
 abbrev μ-loop : tie.MeasureT-loop
-μ-loop bytes i₀ t3 i-end i = i-end - i
+μ-loop bytes i₀ i-end i = i-end - i
 
 pub write-hex-spec : {M : Type 1} → statement M
 write-hex-spec =
@@ -16,7 +16,6 @@ write-hex-spec =
     (tie.spec
     Inv-loop
     μ-loop
-    (λ c. search needs)
     (λ c. search needs)
     (λ c κs. search needs)
     (λ c. search needs)
