@@ -1,10 +1,10 @@
 -- The useless builds and the tempting shortcuts that document 01 names, and a few more: what a decoder, an element call or an encoder must not do.
 -- They are here to be refused: Rejected.antt says which statement each breaks, and the must-fail edits put each in the place of what is proved.
-use Prim.Native.Nat.{ℕ}
-use mathlib.Core.Bool.{cond}
+use Prim.Native.Nat.{ℕ, _+_}
+use mathlib.Core.Bool.{cond, _&&_}
 use mathlib.Core.List.{List, _++_}
 use mathlib.Core.Option.{Option, some, none}
-use lib.Dec.{eqb}
+use lib.Dec.{eqb, ltb}
 use lib.ListN.{length, take, drop}
 use Rattle.protocol.specs.declared.Decoded.the-variants as D
 use Rattle.protocol.specs.declared.Decoded.{Decoded}
@@ -13,6 +13,7 @@ use Rattle.protocol.specs.declared.Encoded.the-variants as N
 use Rattle.protocol.specs.declared.Encoded.{Encoded}
 use Rattle.protocol.specs.declared.Message.the-variants as M
 use Rattle.protocol.specs.declared.Rules.{Rules}
+use Rattle.protocol.specs.Bytes.{numberAt}
 use Rattle.protocol.specs.Decode.{Header, more, refuse, framed, headerOf, bodyOf, decodedBy, decodeOf}
 use Rattle.protocol.specs.Elements.{elementOf}
 use Rattle.protocol.specs.Encode.{writtenBy}
@@ -54,14 +55,15 @@ inTheBuffer rules s (framed k start end) = decodedBy (bodyOf rules k s start) en
 abbrev pub boundedByTheBuffer : Rules → List ℕ → Decoded
 boundedByTheBuffer rules s = inTheBuffer rules s (headerOf rules s)
 
--- the body awaited before a hopeless length is refused
-abbrev awaited : Decoded → Decoded
-awaited (D.Record m n) = D.Record m n
-awaited D.NeedMore = D.NeedMore
-awaited (D.Refused number place) = cond (eqb number lengthAboveLimit) D.NeedMore (D.Refused number place)
+-- the body awaited before a hopeless length, which stands at the refusal's place, is refused
+abbrev awaited : List ℕ → Decoded → Decoded
+awaited s (D.Record m n) = D.Record m n
+awaited s D.NeedMore = D.NeedMore
+awaited s (D.Refused number place) =
+    cond (eqb number lengthAboveLimit && ltb (length s) (place + numberAt 4 s place)) D.NeedMore (D.Refused number place)
 
 abbrev pub waitsForTheBody : Rules → List ℕ → Decoded
-waitsForTheBody rules s = awaited (decodeOf rules s)
+waitsForTheBody rules s = awaited s (decodeOf rules s)
 
 -- ---- an element call
 
