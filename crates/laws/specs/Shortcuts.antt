@@ -18,7 +18,7 @@ use Rattle.protocol.specs.Decode.{Header, more, refuse, framed, headerOf, bodyO
 use Rattle.protocol.specs.Elements.{elementOf}
 use Rattle.protocol.specs.Encode.{writtenBy}
 use Rattle.protocol.specs.Kinds.{Kind, Mode}
-use Rattle.protocol.specs.Refusals.{typeUnknown, lengthAboveLimit, notRepresentable}
+use Rattle.protocol.specs.Refusals.{typeUnknown, lengthAboveLimit, outputTooShort, notRepresentable}
 use Rattle.protocol.specs.WellFormed.{Contents, frame}
 
 -- ---- decoders
@@ -89,4 +89,5 @@ cutsTheOutput m k given r out = writtenBy m k given r (take 1 out)
 abbrev pub headerFirst : (m : Mode) (k : Kind) → Option (Contents k) → Encoded → List ℕ → List ℕ
 headerFirst m k none r out = out
 headerFirst m k (some c) (N.Done n) out = frame (m .envelope) k c ++ drop n out
-headerFirst m k (some c) (N.Refused number place) out = take (length out) (take 5 (frame (m .envelope) k c)) ++ drop 5 out
+headerFirst m k (some c) (N.Refused number place) out =
+    cond (eqb number outputTooShort) (take (length out) (take 5 (frame (m .envelope) k c)) ++ drop 5 out) out
