@@ -166,7 +166,7 @@ pub struct CopyBothResponse<'a> {
     pub column_formats: Formats<'a>,
 }
 
-/// A notification of another session.
+/// A notification, with the server process that sent it.
 #[derive(Clone, Copy, Debug, PartialEq, Eq)]
 pub struct NotificationResponse<'a> {
     pub pid: i32,
