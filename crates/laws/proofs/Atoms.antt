@@ -18,6 +18,7 @@ use Rattle.protocol.specs.Fields.{Atom, unsigned, signed, oneOf, text, value, r
 use Rattle.protocol.specs.Reading.{Read, got, bad, andThen, readNumber, oneMore, zeroIn, textAt, readText, valueAt, readValue, readAtom}
 use Rattle.protocol.specs.Refusals.{cut, notAllowed}
 use Rattle.protocol.proofs.Numbers.{lower, whole}
+use Rattle.laws.specs.Faults.{LastAtom}
 use Rattle.laws.proofs.EachReads.{ReadsBack, Was}
 use Rattle.laws.proofs.Numbers.{bytes-take, bytes-drop, length-be, at-be, be-at, number-at-below, bits-below, signed-bits, signed-in-range, bits-signed}
 
@@ -30,15 +31,6 @@ saneAtom (oneOf bs) = true
 saneAtom text = true
 saneAtom value = true
 saneAtom rest = true
-
--- the rest of a frame has nothing after it
-abbrev pub LastAtom : Atom → List ℕ → Type 0
-LastAtom (unsigned w) post = Unit {0}
-LastAtom (signed w) post = Unit {0}
-LastAtom (oneOf bs) post = Unit {0}
-LastAtom text post = Unit {0}
-LastAtom value post = Unit {0}
-LastAtom rest post = post ≡ []
 
 -- ---- the bytes of an atom are read as it
 

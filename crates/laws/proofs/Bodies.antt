@@ -17,7 +17,8 @@ use Rattle.protocol.specs.Reading.{Read, got, bad, andThen, read, readEach}
 use Rattle.protocol.specs.Refusals.{bytesLeft}
 use Rattle.protocol.specs.WellFormed.{Contents, bodyBytes, AllInRange, allAble}
 use Rattle.protocol.proofs.Find.{every}
-use Rattle.laws.proofs.Atoms.{saneAtom, LastAtom, atom-back, AtomWas, atom-was}
+use Rattle.laws.specs.Faults.{LastField}
+use Rattle.laws.proofs.Atoms.{saneAtom, atom-back, AtomWas, atom-was}
 use Rattle.laws.proofs.EachReads.{ReadsBack, AllReadBack, each-reads-back, AllWere, EachWas, each-was}
 use Rattle.laws.proofs.Items.{both, saneItem}
 use Rattle.laws.proofs.Lists.{counted-back, ended-back, FieldWas, counted-was, ended-was}
@@ -45,11 +46,6 @@ abbrev pub restLast : List Field → Bool
 restLast [] = true
 restLast (x ∷ []) = true
 restLast (x ∷ y ∷ ys) = stops x && restLast (y ∷ ys)
-
-abbrev pub LastField : Field → List ℕ → Type 0
-LastField (one a) post = LastAtom a post
-LastField (counted k i) post = Unit {0}
-LastField (ended i) post = Unit {0}
 
 pub last-nothing : (x : Field) → LastField x []
 last-nothing (one (unsigned w)) = tt

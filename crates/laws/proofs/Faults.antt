@@ -16,8 +16,8 @@ use Rattle.protocol.specs.declared.Rules.{Rules}
 use Rattle.protocol.specs.declared.Span.{Span}
 use Rattle.protocol.specs.Bytes.{Bytes, noZero, isOneOf, numberAt, signedOf}
 use Rattle.protocol.specs.Each.{Each}
-use Rattle.protocol.specs.Fields.{Atom, unsigned, signed, oneOf, text, value, rest, AtomSlot, atomBytes, Item, itemBytes, itemLeast, itemsBytes, Count, Field, one, counted, ended}
-use Rattle.protocol.specs.Reading.{Read, got, bad, andThen, readNumber, oneMore, zeroIn, textAt, readText, valueAt, readValue, readAtom, readEach, readItem, passItems, countOf, countAt, readCount, readCounted, endedFrom, readEnded, read}
+use Rattle.protocol.specs.Fields.{Atom, unsigned, signed, oneOf, text, value, rest, AtomSlot, atomBytes, Item, itemBytes, itemLeast, itemsBytes, Count, countOf, Field, one, counted, ended}
+use Rattle.protocol.specs.Reading.{Read, got, bad, andThen, readNumber, oneMore, zeroIn, textAt, readText, valueAt, readValue, readAtom, readEach, readItem, passItems, countAt, readCount, readCounted, endedFrom, readEnded, read}
 use Rattle.protocol.specs.Refusals.{badCount, cut, notAllowed}
 use Rattle.protocol.proofs.Counts.{Counted, counted-is}
 use Rattle.protocol.proofs.Find.{every}

@@ -13,9 +13,10 @@ use Rattle.protocol.specs.Each.{Each, bytesOfEach, ableEach, HoldsEach}
 use Rattle.protocol.specs.Fields.{Atom, unsigned, signed, oneOf, text, value, rest, AtomContent, AtomInRange, atomAble, atomBytes, atomSlot, Item, ItemContent, ItemInRange, itemAble, itemBytes, itemLeast, itemsBytes, ItemsInRange, itemsAble, Field, one, counted, ended, Content, InRange, able, bytes}
 use Rattle.protocol.specs.WellFormed.{bodyBytes, header, frame}
 use Rattle.protocol.proofs.Find.{every}
+use Rattle.laws.specs.Faults.{LastAtom, LastField}
 use Rattle.laws.specs.ReaderStatements.{theReader, Step, AtomInOrder, AtomsInOrder, ItemsInOrder, FieldInOrder, FieldsInOrder, InOrder}
-use Rattle.laws.proofs.Atoms.{saneAtom, LastAtom, number-back, byte-back, atom-back}
-use Rattle.laws.proofs.Bodies.{saneField, stops, restLast, LastField, last-nothing, last-stops}
+use Rattle.laws.proofs.Atoms.{saneAtom, number-back, byte-back, atom-back}
+use Rattle.laws.proofs.Bodies.{saneField, stops, restLast, last-nothing, last-stops}
 use Rattle.laws.proofs.Complete.{header-long}
 use Rattle.laws.proofs.Fields.{atom-placed}
 use Rattle.laws.proofs.Items.{both, inItem, saneItem, in-item-sane, in-item-last}

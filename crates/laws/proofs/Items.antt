@@ -13,7 +13,8 @@ use Rattle.protocol.specs.Each.{Each, bytesOfEach, ableEach, HoldsEach, leastOf
 use Rattle.protocol.specs.Fields.{Atom, unsigned, signed, oneOf, text, value, rest, AtomContent, AtomSlot, ValueInRange, AtomInRange, atomAble, valueBytes, atomBytes, atomSlot, atomLeast, Item, ItemContent, ItemInRange, itemAble, itemBytes, itemSlots, itemLeast, itemsBytes, ItemsInRange, itemsAble}
 use Rattle.protocol.specs.Reading.{Read, got, bad, andThen, readAtom, readItem, passItems}
 use Rattle.protocol.proofs.Find.{every}
-use Rattle.laws.proofs.Atoms.{saneAtom, LastAtom, atom-back, atom-was}
+use Rattle.laws.specs.Faults.{LastAtom}
+use Rattle.laws.proofs.Atoms.{saneAtom, atom-back, atom-was}
 use Rattle.laws.proofs.EachReads.{AllReadBack, each-reads-back, AllWere, EachWas, each-was}
 use Rattle.laws.proofs.Numbers.{length-be, bytes-append}
 use Rattle.laws.proofs.Table.{and-left, and-right}

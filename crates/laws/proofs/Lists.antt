@@ -14,8 +14,8 @@ use Rattle.protocol.specs.declared.List.{List as ListSlot}
 use Rattle.protocol.specs.declared.Rules.{Rules}
 use Rattle.protocol.specs.Bytes.{Bytes, be, signedOf, bitsOf}
 use Rattle.protocol.specs.Each.{Each}
-use Rattle.protocol.specs.Fields.{AtomSlot, Item, ItemContent, itemBytes, itemLeast, itemsBytes, ItemsInRange, itemsAble, zeroFirst, noneEnds, Count, signedCount, most, Field, counted, ended, Slot, InRange, able, bytes, slot}
-use Rattle.protocol.specs.Reading.{Read, got, bad, andThen, readNumber, readItem, passItems, countOf, countAt, readCount, readCounted, endedFrom, readEnded, read}
+use Rattle.protocol.specs.Fields.{AtomSlot, Item, ItemContent, itemBytes, itemLeast, itemsBytes, ItemsInRange, itemsAble, zeroFirst, noneEnds, Count, signedCount, countOf, most, Field, counted, ended, Slot, InRange, able, bytes, slot}
+use Rattle.protocol.specs.Reading.{Read, got, bad, andThen, readNumber, readItem, passItems, countAt, readCount, readCounted, endedFrom, readEnded, read}
 use Rattle.protocol.proofs.Counts.{Counted, counted-is}
 use Rattle.protocol.proofs.Find.{every}
 use Rattle.protocol.proofs.Numbers.{lower}

@@ -1,55 +1,271 @@
--- Document 01's tables once more, as plain lines, to hold the table of kinds against: type byte, smallest length, limit (L is 1,048,576, all
--- others 8,192).
+-- The tables of docs/FORMAT.md once more, as plain lines, to hold the table of kinds against: for each mode its number and how its frames are framed; for
+-- each kind its name, type byte, smallest length, limit (L is 1,048,576, all others 8,192), and its body, field by field from left to right: the name that
+-- the record has for it, and what stands on the wire.
 use Prim.Native.Char.{Char, code}
-use Prim.Native.Nat.{ℕ}
+use Prim.Native.Nat.{ℕ, _*_}
+use Prim.Native.String.{String}
 use mathlib.Core.List.{List, [], _∷_, map}
-use Rattle.protocol.specs.Kinds.{Kind, Mode}
+use mathlib.Core.Option.{none}
+use mathlib.Core.Path.{_≡_}
+use lib.IntN.{pos}
+use Rattle.protocol.specs.declared.Message.the-variants as M
+use Rattle.protocol.specs.declared.Message.{Message}
+use Rattle.protocol.specs.declared.Span.{Span}
+use Rattle.protocol.specs.declared.response.GssEncResponse.the-variants as Gss
+use Rattle.protocol.specs.declared.response.SslResponse.the-variants as Ssl
+use Rattle.protocol.specs.Each.{Each}
+use Rattle.protocol.specs.Fields as F
+use Rattle.protocol.specs.Fields.{Atom, AtomSlot, Item, signedCount, Field, Slot}
+use Rattle.protocol.specs.Kinds.{Envelope, typed, untyped, bare, Kind, Mode}
+use Rattle.protocol.specs.Names.{nameOf}
+use Rattle.laws.specs.FieldNames.{Holds, number, integer, part, orNull, list, Named, fieldsOf, elementFields}
+
+infix 80 _∶_
+
+-- ---- the words of the tables
+
+-- what stands on the wire: a number of so many bits, unsigned or signed; one of some bytes; a string; a value; the rest of the frame
+pub data Wire : Type 0 where
+  u i : ℕ → Wire
+  byteOf : List ℕ → Wire
+  string value rest : Wire
+
+pub record Thing : Type 0 where
+  pub name : String
+  pub wire : Wire
+
+abbrev pub _∶_ : String → Wire → Thing
+name ∶ wire = record { name = name; wire = wire }
+
+-- a field: one thing; n, a signed count, and n items of some things each; or such items until a zero byte stands in place of one
+pub data Column : Type 0 where
+  one : Thing → Column
+  n : String → List Thing → Column
+  untilZero : String → List Thing → Column
 
 pub record Line : Type 0 where
+  pub name : String
   pub tag : ℕ
   pub smallest : ℕ
   pub limit : ℕ
+  pub body : List Column
 
-abbrev line : Char → ℕ → ℕ → Line
-line type smallest limit = record { tag = code type; smallest = smallest; limit = limit }
+pub record Page : Type 0 where
+  pub mode : ℕ
+  pub envelope : Envelope
+  pub lines : List Line
 
-abbrev pub lines : Mode → List Line
-lines m = map (λ (k : Kind). record { tag = k .tag; smallest = k .smallest; limit = k .limit }) (m .kinds)
+abbrev line : String → Char → ℕ → ℕ → List Column → Line
+line name type smallest limit body = record { name = name; tag = code type; smallest = smallest; limit = limit; body = body }
 
-abbrev pub document : List (List Line)
-document =
-    (line "P" 8 1048576  -- Parse
-    ∷ line "B" 12 1048576  -- Bind
-    ∷ line "C" 6 8192  -- Close
-    ∷ line "D" 6 8192  -- Describe
-    ∷ line "E" 9 8192  -- Execute
-    ∷ line "H" 4 8192  -- Flush
-    ∷ line "S" 4 8192  -- Sync
-    ∷ line "c" 4 8192  -- CopyDone
-    ∷ line "d" 4 1048576  -- CopyData
-    ∷ line "f" 5 8192  -- CopyFail
+abbrev L : ℕ
+L = 1048576
+
+abbrev house : ℕ
+house = 8192
+
+-- ---- the tables
+
+abbrev targets : Wire
+targets = byteOf (code "S" ∷ code "P" ∷ [])
+
+abbrev statuses : Wire
+statuses = byteOf (code "I" ∷ code "T" ∷ code "E" ∷ [])
+
+abbrev formats : String → Column
+formats name = n name ("format" ∶ i 16 ∷ [])
+
+abbrev errors : Column
+errors = untilZero "fields" ("code" ∶ u 8 ∷ "string" ∶ string ∷ [])
+
+abbrev frontend : List Line
+frontend =
+    line "Parse" "P" 8 L (one ("name" ∶ string) ∷ one ("query" ∶ string) ∷ n "type_oids" ("oid" ∶ u 32 ∷ []) ∷ [])
+    ∷ line "Bind" "B" 12 L
+    (one ("portal_name" ∶ string)
+    ∷ one ("statement_name" ∶ string)
+    ∷ formats "parameter_format_codes"
+    ∷ n "parameters" ("value" ∶ value ∷ [])
+    ∷ formats "result_column_format_codes"
     ∷ [])
-    ∷ (line "1" 4 8192  -- ParseComplete
-    ∷ line "2" 4 8192  -- BindComplete
-    ∷ line "3" 4 8192  -- CloseComplete
-    ∷ line "s" 4 8192  -- PortalSuspended
-    ∷ line "n" 4 8192  -- NoData
-    ∷ line "I" 4 8192  -- EmptyQueryResponse
-    ∷ line "c" 4 8192  -- CopyDone
-    ∷ line "T" 6 1048576  -- RowDescription
-    ∷ line "t" 6 1048576  -- ParameterDescription
-    ∷ line "D" 6 1048576  -- DataRow
-    ∷ line "C" 5 8192  -- CommandComplete
-    ∷ line "Z" 5 8192  -- ReadyForQuery
-    ∷ line "E" 5 1048576  -- ErrorResponse
-    ∷ line "N" 5 1048576  -- NoticeResponse
-    ∷ line "G" 7 8192  -- CopyInResponse
-    ∷ line "H" 7 8192  -- CopyOutResponse
-    ∷ line "W" 7 8192  -- CopyBothResponse
-    ∷ line "A" 10 1048576  -- NotificationResponse
-    ∷ line "d" 4 1048576  -- CopyData
-    ∷ [])
-    ∷ (record { tag = 80877102; smallest = 16; limit = 8192 } ∷ [])  -- CancelRequest
-    ∷ (line "S" 1 1 ∷ line "N" 1 1 ∷ [])  -- the TLS answer
-    ∷ (line "G" 1 1 ∷ line "N" 1 1 ∷ [])  -- the GSS answer
+    ∷ line "Close" "C" 6 house (one ("target_type" ∶ targets) ∷ one ("name" ∶ string) ∷ [])
+    ∷ line "Describe" "D" 6 house (one ("target_type" ∶ targets) ∷ one ("name" ∶ string) ∷ [])
+    ∷ line "Execute" "E" 9 house (one ("name" ∶ string) ∷ one ("max_rows" ∶ i 32) ∷ [])
+    ∷ line "Flush" "H" 4 house []
+    ∷ line "Sync" "S" 4 house []
+    ∷ line "CopyDone" "c" 4 house []
+    ∷ line "CopyData" "d" 4 L (one ("data" ∶ rest) ∷ [])
+    ∷ line "CopyFail" "f" 5 house (one ("message" ∶ string) ∷ [])
     ∷ []
+
+abbrev backend : List Line
+backend =
+    line "ParseComplete" "1" 4 house []
+    ∷ line "BindComplete" "2" 4 house []
+    ∷ line "CloseComplete" "3" 4 house []
+    ∷ line "PortalSuspended" "s" 4 house []
+    ∷ line "NoData" "n" 4 house []
+    ∷ line "EmptyQueryResponse" "I" 4 house []
+    ∷ line "CopyDone" "c" 4 house []
+    ∷ line "RowDescription" "T" 6 L
+    (n "fields"
+    ("name" ∶ string
+    ∷ "table_id" ∶ i 32
+    ∷ "column_id" ∶ i 16
+    ∷ "type_id" ∶ u 32
+    ∷ "type_size" ∶ i 16
+    ∷ "type_modifier" ∶ i 32
+    ∷ "format_code" ∶ i 16
+    ∷ [])
+    ∷ [])
+    ∷ line "ParameterDescription" "t" 6 L (n "types" ("oid" ∶ u 32 ∷ []) ∷ [])
+    ∷ line "DataRow" "D" 6 L (n "data" ("value" ∶ value ∷ []) ∷ [])
+    ∷ line "CommandComplete" "C" 5 house (one ("tag" ∶ string) ∷ [])
+    ∷ line "ReadyForQuery" "Z" 5 house (one ("status" ∶ statuses) ∷ [])
+    ∷ line "ErrorResponse" "E" 5 L (errors ∷ [])
+    ∷ line "NoticeResponse" "N" 5 L (errors ∷ [])
+    ∷ line "CopyInResponse" "G" 7 house (one ("format" ∶ i 8) ∷ formats "column_formats" ∷ [])
+    ∷ line "CopyOutResponse" "H" 7 house (one ("format" ∶ i 8) ∷ formats "column_formats" ∷ [])
+    ∷ line "CopyBothResponse" "W" 7 house (one ("format" ∶ i 8) ∷ formats "column_formats" ∷ [])
+    ∷ line "NotificationResponse" "A" 10 L (one ("pid" ∶ i 32) ∷ one ("channel" ∶ string) ∷ one ("payload" ∶ string) ∷ [])
+    ∷ line "CopyData" "d" 4 L (one ("data" ∶ rest) ∷ [])
+    ∷ []
+
+abbrev cancel : Line
+cancel = record {
+  name = "CancelRequest";
+  tag = 80877102;
+  smallest = 16;
+  limit = house;
+  body = one ("pid" ∶ i 32) ∷ one ("secret_key" ∶ i 32) ∷ [];
+}
+
+abbrev pub document : List Page
+document =
+    record { mode = 0; envelope = typed; lines = frontend }
+    ∷ record { mode = 1; envelope = typed; lines = backend }
+    ∷ record { mode = 2; envelope = untyped; lines = cancel ∷ [] }
+    ∷ record { mode = 3; envelope = bare; lines = line "SslResponse" "S" 1 1 [] ∷ line "SslResponse" "N" 1 1 [] ∷ [] }
+    ∷ record { mode = 4; envelope = bare; lines = line "GssEncResponse" "G" 1 1 [] ∷ line "GssEncResponse" "N" 1 1 [] ∷ [] }
+    ∷ []
+
+-- ---- a row of the table of kinds in these words
+
+abbrev wireOf : Atom → Wire
+wireOf (F.unsigned w) = u (8 * w)
+wireOf (F.signed w) = i (8 * w)
+wireOf (F.oneOf bs) = byteOf bs
+wireOf F.text = string
+wireOf F.value = value
+wireOf F.rest = rest
+
+-- slots to see the names by: no name depends on them
+abbrev nowhere : Span
+nowhere = record { start = 0; len = 0 }
+
+abbrev blankAtom : (a : Atom) → AtomSlot a
+blankAtom (F.unsigned w) = 0
+blankAtom (F.signed w) = pos 0
+blankAtom (F.oneOf bs) = 0
+blankAtom F.text = nowhere
+blankAtom F.value = none
+blankAtom F.rest = nowhere
+
+abbrev blankAtoms : (xs : List Atom) → Each AtomSlot xs
+blankAtoms [] = tt
+blankAtoms (a ∷ xs) = record { 0 = blankAtom a; 1 = blankAtoms xs }
+
+abbrev blank : (x : Field) → Slot x
+blank (F.one a) = blankAtom a
+blank (F.counted k item) = record { start = 0; count = 0 }
+blank (F.ended item) = record { start = 0; count = 0 }
+
+abbrev blanks : (xs : List Field) → Each Slot xs
+blanks [] = tt
+blanks (x ∷ xs) = record { 0 = blank x; 1 = blanks xs }
+
+abbrev pub namesOf : List Named → List String
+namesOf xs = map (λ (x : Named). x .name) xs
+
+-- a name for each; a body with more or fewer fields than its record has names is no line of the document
+abbrev things : List Atom → List String → List Thing
+things [] names = []
+things (a ∷ xs) [] = []
+things (a ∷ xs) (name ∷ names) = name ∶ wireOf a ∷ things xs names
+
+abbrev pub itemNames : Item → List String
+itemNames item = namesOf (elementFields (item .element (blankAtoms (item .atoms))))
+
+abbrev column : Field → String → Column
+column (F.one a) name = one (name ∶ wireOf a)
+column (F.counted signedCount item) name = n name (things (item .atoms) (itemNames item))
+column (F.ended item) name = untilZero name (things (item .atoms) (itemNames item))
+
+abbrev columns : List Field → List String → List Column
+columns [] names = []
+columns (x ∷ xs) [] = []
+columns (x ∷ xs) (name ∷ names) = column x name ∷ columns xs names
+
+abbrev pub recordNames : Kind → List String
+recordNames k = namesOf (fieldsOf (k .message (blanks (k .body))))
+
+abbrev lineOf : Kind → Line
+lineOf k = record {
+  name = nameOf (k .message (blanks (k .body)));
+  tag = k .tag;
+  smallest = k .smallest;
+  limit = k .limit;
+  body = columns (k .body) (recordNames k);
+}
+
+abbrev pub lines : Mode → Page
+lines m = record { mode = m .mode; envelope = m .envelope; lines = map lineOf (m .kinds) }
+
+-- ---- the record holds, under each name, what was read of that field
+
+abbrev heldAtom : (a : Atom) → AtomSlot a → Holds
+heldAtom (F.unsigned w) v = number v
+heldAtom (F.signed w) v = integer v
+heldAtom (F.oneOf bs) v = number v
+heldAtom F.text v = part v
+heldAtom F.value v = orNull v
+heldAtom F.rest v = part v
+
+abbrev held : (x : Field) → Slot x → Holds
+held (F.one a) v = heldAtom a v
+held (F.counted k item) v = list v
+held (F.ended item) v = list v
+
+-- each of some, under the names in their order
+abbrev under : {X : Type 0} {S : X → Type 0} → ((x : X) → S x → Holds) → (xs : List X) → Each S xs → List String → List Named
+under hold [] v names = []
+under hold (x ∷ xs) v [] = []
+under hold (x ∷ xs) v (name ∷ names) = record { name = name; holds = hold x (v .0) } ∷ under hold xs (v .1) names
+
+abbrev pub RecordNamed : Kind → Type 0
+RecordNamed k = (v : Each Slot (k .body)) → fieldsOf (k .message v) ≡ under held (k .body) v (recordNames k)
+
+-- and so does an element of each of its lists
+abbrev pub ItemNamed : Item → Type 0
+ItemNamed item = (v : Each AtomSlot (item .atoms)) → elementFields (item .element v) ≡ under heldAtom (item .atoms) v (itemNames item)
+
+abbrev pub ItemsNamed : List Field → Type 0
+ItemsNamed [] = Unit {0}
+ItemsNamed (F.one a ∷ xs) = ItemsNamed xs
+ItemsNamed (F.counted k item ∷ xs) = ItemNamed item × ItemsNamed xs
+ItemsNamed (F.ended item ∷ xs) = ItemNamed item × ItemsNamed xs
+
+-- ---- which byte is which answer, in modes 3 and 4
+
+pub record Byte : Type 0 where
+  pub byte : ℕ
+  pub is : Message
+
+abbrev pub bytesOf : Mode → List Byte
+bytesOf m = map (λ (k : Kind). record { byte = k .tag; is = k .message (blanks (k .body)) }) (m .kinds)
+
+abbrev pub tlsBytes : List Byte
+tlsBytes = record { byte = code "S"; is = M.SslResponse Ssl.Accept } ∷ record { byte = code "N"; is = M.SslResponse Ssl.Refuse } ∷ []
+
+abbrev pub gssBytes : List Byte
+gssBytes = record { byte = code "G"; is = M.GssEncResponse Gss.Accept } ∷ record { byte = code "N"; is = M.GssEncResponse Gss.Refuse } ∷ []

@@ -9,9 +9,8 @@ use lib.IntN.{pos, negsuc}
 use lib.ListN.{length, drop}
 use Rattle.protocol.specs.declared.Rules.{Rules}
 use Rattle.protocol.specs.Bytes.{noZero, isOneOf, numberAt, signedOf}
-use Rattle.protocol.specs.Fields.{Atom, unsigned, signed, oneOf, text, value, rest, AtomContent, AtomInRange, atomAble, atomBytes, Item, ItemContent, ItemsInRange, itemsAble, itemsBytes, noneEnds, itemLeast, Count, Field, one, counted, ended, Content, InRange, able, bytes}
+use Rattle.protocol.specs.Fields.{Atom, unsigned, signed, oneOf, text, value, rest, AtomContent, AtomInRange, atomAble, atomBytes, Item, ItemContent, ItemsInRange, itemsAble, itemsBytes, noneEnds, itemLeast, Count, countOf, Field, one, counted, ended, Content, InRange, able, bytes}
 use Rattle.protocol.specs.Kinds.{Envelope, typed, untyped, bare, Kind, IsIn}
-use Rattle.protocol.specs.Reading.{countOf}
 use Rattle.protocol.specs.Refusals.{typeUnknown, lengthTooSmall, lengthAboveLimit, badCount, cut, notAllowed, bytesLeft}
 
 -- a number of w bytes is cut
@@ -42,12 +41,27 @@ AtomFault text g number = Unended g number
 AtomFault value g number = Short 4 g number ⊎ (BelowNull g number ⊎ LongValue g number)
 AtomFault rest g number = ⊥
 
+-- what may stand after an atom, or after a field: after the rest of a frame, nothing
+abbrev pub LastAtom : Atom → List ℕ → Type 0
+LastAtom (unsigned w) h = Unit {0}
+LastAtom (signed w) h = Unit {0}
+LastAtom (oneOf bs) h = Unit {0}
+LastAtom text h = Unit {0}
+LastAtom value h = Unit {0}
+LastAtom rest h = h ≡ []
+
+abbrev pub LastField : Field → List ℕ → Type 0
+LastField (one a) h = LastAtom a h
+LastField (counted k i) h = Unit {0}
+LastField (ended i) h = Unit {0}
+
 -- a right content, and its bytes at the start of g
 pub record AtomBefore (rules : Rules) (a : Atom) (g h : List ℕ) (at : ℕ) : Type 0 where
   pub content : AtomContent a
   pub inRange : AtomInRange a content
   pub writable : atomAble rules a content ≡ true
   pub split : g ≡ atomBytes a content ++ h
+  pub last : LastAtom a h
   pub place : at ≡ length (atomBytes a content)
 
 -- a fault among atoms, `at` bytes after g's first
@@ -72,6 +86,16 @@ CountFault k i g number =
     × (((n : ℕ) × (countOf k (numberAt 2 g 0) ≡ negsuc n))
     ⊎ ((n : ℕ) × (countOf k (numberAt 2 g 0) ≡ pos n) × (length (drop 2 g) < n * itemLeast i))))
 
+-- so many of the smallest items fit into g
+abbrev pub Fit : Item → ℕ → List ℕ → Type 0
+Fit i n g = n * itemLeast i ≤ length g
+
+-- a right count: it is there and not negative, and so many of the smallest items fit into what is left after it
+pub record RightCount (k : Count) (i : Item) (g : List ℕ) (n : ℕ) : Type 0 where
+  pub there : 2 ≤ length g
+  pub is : countOf k (numberAt 2 g 0) ≡ pos n
+  pub fit : Fit i n (drop 2 g)
+
 -- a fault of an item of a counted list: a right count, some right items, fewer than it says, and a fault in the next
 pub record ItemFault (rules : Rules) (k : Count) (i : Item) (g : List ℕ) (number at : ℕ) : Type 0 where
   pub n : ℕ
@@ -79,8 +103,7 @@ pub record ItemFault (rules : Rules) (k : Count) (i : Item) (g : List ℕ) (numb
   pub first : ℕ
   pub inside : ℕ
   pub after : List ℕ
-  pub header : 2 ≤ length g
-  pub count : countOf k (numberAt 2 g 0) ≡ pos n
+  pub count : RightCount k i g n
   pub items : ItemsBefore rules i (drop 2 g) after before first
   pub fewer : before < n
   pub fault : AtomsFault rules (i .atoms) after number inside
@@ -109,6 +132,7 @@ pub record FieldBefore (rules : Rules) (x : Field) (g h : List ℕ) (at : ℕ) :
   pub inRange : InRange x content
   pub writable : able rules x content ≡ true
   pub split : g ≡ bytes x content ++ h
+  pub last : LastField x h
   pub place : at ≡ length (bytes x content)
 
 -- a fault of a body: in a field after right ones, or bytes left over after the last

@@ -4,8 +4,8 @@ use mathlib.Core.List.{List, [], _∷_}
 use mathlib.Core.Option.{Option, some, none}
 use mathlib.Core.Path.{_≡_}
 use lib.ListN.{length}
-use Rattle.protocol.specs.declared.Element.the-variants as E
 use Rattle.protocol.specs.declared.Element.{Element}
+use Rattle.protocol.specs.Answers.{success, refusal, ofElement}
 use Rattle.protocol.specs.Each.{Each}
 use Rattle.protocol.specs.Fields.{Atom, AtomContent, AtomSlot, Item, ItemContent, itemBytes, itemSlots, Field, one, counted, ended, Content, bytes}
 use Rattle.protocol.specs.Refusals.{noSuchElement}
@@ -39,10 +39,10 @@ AtomsPlaced s (a ∷ xs) v c = AtomPlaced s a (v .0) (c .0) × AtomsPlaced s xs 
 
 -- e is that item, numbers and positions, and the parts of s at its positions are its own bytes
 pub record IsItem (s : List ℕ) (x : Found) (e : Element) : Type 0 where
-  pub is : e ≡ x .item .element (itemSlots (x .item) (x .place) (x .content))
+  pub is : ofElement e ≡ success (x .item .element (itemSlots (x .item) (x .place) (x .content))) 0
   pub placed : AtomsPlaced s (x .item .atoms) (itemSlots (x .item) (x .place) (x .content)) (x .content)
 
 -- e is what an element call of s answers of it: 11 where there is none
 abbrev pub Answers : List ℕ → Option Found → Element → Type 0
-Answers s none e = e ≡ E.Refused noSuchElement 0
+Answers s none e = ofElement e ≡ refusal noSuchElement 0
 Answers s (some x) e = IsItem s x e

@@ -2,6 +2,7 @@
 -- place; the theorem holds of `theReader`, to which the reader's functions are proved equal.
 use Prim.Native.Nat.{ℕ, _+_, _≤_, _<_}
 use mathlib.Core.List.{List, [], _∷_}
+use mathlib.Core.Logic.{_⊎_}
 use mathlib.Core.Option.{Option, some}
 use mathlib.Core.Path.{_≡_}
 use lib.IntN.{ℤ, pos, negsuc}
@@ -9,19 +10,24 @@ use lib.ListN.{length}
 use Rattle.protocol.specs.declared.Element.the-variants as E
 use Rattle.protocol.specs.declared.Element.{Element}
 use Rattle.protocol.specs.declared.List.{List as ListSlot}
+use Rattle.protocol.specs.declared.Message.the-variants as M
+use Rattle.protocol.specs.declared.Message.{Message}
 use Rattle.protocol.specs.declared.Rules.{Rules}
 use Rattle.protocol.specs.declared.Span.{Span}
+use Rattle.protocol.specs.declared.data.DataRow.{DataRow}
+use Rattle.protocol.specs.Answers.{Answer, success, needsMore, refusal, ofDecoded, ofElement}
 use Rattle.protocol.specs.Bytes.{bitsOf}
 use Rattle.protocol.specs.Each.{Each}
 use Rattle.protocol.specs.Fields.{Atom, unsigned, signed, oneOf, text, value, rest, AtomContent, atomBytes, valueSlot, atomSlot, Item, ItemContent, itemBytes, Field, one, counted, ended, Content, itemsBytes, bytes}
 use Rattle.protocol.specs.Kinds.{Kind, Mode}
 use Rattle.protocol.specs.Reading.{Read, got, readNumber, readText, readValue}
+use Rattle.protocol.specs.Refusals.{outputTooShort, noSuchElement}
 use Rattle.protocol.specs.WellFormed.{Contents, WellFormed, bodyStart, frame}
-use Rattle.reader.specs.declared.row.Row.the-variants as R
-use Rattle.reader.specs.Row.{ReadsRow}
+use Rattle.reader.specs.declared.row.Row.{Row}
+use Rattle.reader.specs.Row.{ofRow, ReadsRow}
 use Rattle.laws.specs.Arguments.{nth}
 use Rattle.laws.specs.Places.{AtomPlaced}
-use Rattle.laws.specs.Statements.{ElementCall}
+use Rattle.laws.specs.Statements.{Decoder, ElementCall}
 
 -- a number of 1, 2 or 4 bytes, a string and a value, each at a place of a frame
 pub record Reader : Type 0 where
@@ -72,18 +78,38 @@ InOrder reader =
 
 -- ---- a row at once
 
+-- What is answered: decode's own need-more or refusal; then 11 where the message is no DataRow, and 9 where a list is too short, each at 0; else the
+-- row's values and the bytes consumed.
+pub record RowAnswered (decode : Decoder) (s starts : List ℕ) (lengths : List ℤ) (a : Answer ListSlot) : Type 0 where
+  pub needMore : ofDecoded (decode (record { mode = 1 }) s) ≡ needsMore → a ≡ needsMore
+  pub refused : (number place : ℕ) → ofDecoded (decode (record { mode = 1 }) s) ≡ refusal number place → a ≡ refusal number place
+  pub other : (m : Message) (n : ℕ) → ofDecoded (decode (record { mode = 1 }) s) ≡ success m n
+      → ((r : DataRow) → m ≡ M.DataRow r → ⊥) → a ≡ refusal noSuchElement 0
+  pub short : (r : DataRow) (n : ℕ) → ofDecoded (decode (record { mode = 1 }) s) ≡ success (M.DataRow r) n
+      → (length starts < r .«data» .count) ⊎ (length lengths < r .«data» .count) → a ≡ refusal outputTooShort 0
+  pub row : (r : DataRow) (n : ℕ) → ofDecoded (decode (record { mode = 1 }) s) ≡ success (M.DataRow r) n
+      → r .«data» .count ≤ length starts → r .«data» .count ≤ length lengths → a ≡ success (r .«data») n
+
+abbrev pub RowAnswers : Decoder → Type 0
+RowAnswers decode =
+    (s starts₀ starts₁ : List ℕ) (lengths₀ lengths₁ : List ℤ) (r : Row) → ReadsRow s starts₀ lengths₀ r starts₁ lengths₁
+    → RowAnswered decode s starts₀ lengths₀ (ofRow r)
+
 -- the element that an entry tells
 abbrev pub elementAs : ℕ → ℤ → Element
 elementAs start (pos len) = E.Value (record { start = start; len = len })
 elementAs start (negsuc n) = E.Null
 
 pub record RowIs (call : ElementCall) (s starts₀ starts₁ : List ℕ) (lengths₀ lengths₁ : List ℤ) (count : ℕ) : Type 0 where
-  pub entry : (i : ℕ) → i < count → (start : ℕ) × (length : ℤ) × (nth starts₁ i ≡ some start) × (nth lengths₁ i ≡ some length) × (call (record { mode = 1 }) s 0 i ≡ elementAs start length)
+  pub entry : (i : ℕ) → i < count
+      → (start : ℕ) × (length : ℤ) × (nth starts₁ i ≡ some start) × (nth lengths₁ i ≡ some length)
+      × (ofElement (call (record { mode = 1 }) s 0 i) ≡ success (elementAs start length) 0)
   pub starts : (i : ℕ) → count ≤ i → nth starts₁ i ≡ nth starts₀ i
   pub lengths : (i : ℕ) → count ≤ i → nth lengths₁ i ≡ nth lengths₀ i
 
 -- Entry i of the two lists that a row was read into is element i, for every i below the count; later entries are as they were.
 abbrev pub RowEntries : ElementCall → Type 0
 RowEntries call =
-    (s starts₀ starts₁ : List ℕ) (lengths₀ lengths₁ : List ℤ) (l : ListSlot) (n : ℕ) → ReadsRow s starts₀ lengths₀ (R.Is l n) starts₁ lengths₁
+    (s starts₀ starts₁ : List ℕ) (lengths₀ lengths₁ : List ℤ) (r : Row) (l : ListSlot) (n : ℕ)
+    → ReadsRow s starts₀ lengths₀ r starts₁ lengths₁ → ofRow r ≡ success l n
     → RowIs call s starts₀ starts₁ lengths₀ lengths₁ (l .count)

@@ -7,6 +7,7 @@
 use Prim.Native.Nat.{ℕ, zero, suc}
 use mathlib.Core.List.{List, [], _∷_, _++_}
 use lib.IntN.{ℤ}
+use lib.ListN.{getD, drop}
 use Rattle.protocol.specs.declared.Decoded.the-variants as D
 use Rattle.protocol.specs.declared.Decoded.{Decoded}
 use Rattle.protocol.specs.declared.Element.the-variants as E
@@ -21,6 +22,7 @@ use Rattle.protocol.specs.declared.response.GssEncResponse.the-variants as Gss
 use Rattle.protocol.specs.declared.response.GssEncResponse.{GssEncResponse}
 use Rattle.protocol.specs.declared.response.SslResponse.the-variants as Ssl
 use Rattle.protocol.specs.declared.response.SslResponse.{SslResponse}
+use Rattle.protocol.specs.Answers.{Answer, success, needsMore, refusal}
 use Rattle.protocol.specs.Bytes.{bitsOf}
 
 -- the first n numbers of some, zeros behind them
@@ -120,3 +122,10 @@ elementOut (E.Field d) = recordOut 0 (5 ∷ fieldNumbers d)
 elementOut (E.ErrorField c s) = recordOut 0 (6 ∷ c ∷ span s)
 elementOut E.NeedMore = needMoreOut 16
 elementOut (E.Refused number place) = refusedOut 16 number place
+
+-- how a host reads the numbers of an answer: of one that is there, those from the fifth on and the bytes consumed
+unfoldable pub ofNumbers : List ℕ → Answer (List ℕ)
+ofNumbers [] = needsMore
+ofNumbers (zero ∷ xs) = success (drop 3 xs) (getD xs 2 0)
+ofNumbers (suc zero ∷ xs) = needsMore
+ofNumbers (suc (suc status) ∷ xs) = refusal (getD xs 0 0) (getD xs 1 0)

@@ -7,6 +7,7 @@ use mathlib.Core.Path.{_≡_}
 use lib.Dec.{ltb}
 use lib.ListN.{length, drop}
 use Rattle.protocol.specs.declared.Message.{Message}
+use Rattle.protocol.specs.Answers.{Answer, success, needsMore, refusal}
 use Rattle.protocol.specs.Kinds.{Mode, modes, find}
 use Rattle.protocol.specs.Names.{nameOf, lettersOf}
 use Rattle.protocol.specs.Stream as Stream
@@ -28,6 +29,13 @@ stepOf (S.Frame m n) = frame m n
 stepOf S.Whole = stop whole
 stepOf S.NeedMore = stop needMore
 stepOf (S.Refused number) = stop (refused number)
+
+-- as an answer: a frame's message and its bytes, or none where no byte is left at p; a refusal's place is p, where the unread frame begins
+unfoldable pub ofStep : ℕ → Step → Answer (Option Message)
+ofStep p (S.Frame m n) = success (some m) n
+ofStep p S.Whole = success none 0
+ofStep p S.NeedMore = needsMore
+ofStep p (S.Refused number) = refusal number p
 
 -- ---- the lines
 

@@ -11,8 +11,8 @@ use lib.ListN.{length}
 use Rattle.protocol.specs.declared.List.{List as ListSlot}
 use Rattle.protocol.specs.declared.Rules.{Rules}
 use Rattle.protocol.specs.Each.{Each}
-use Rattle.protocol.specs.Fields.{AtomSlot, Item, Count}
-use Rattle.protocol.specs.Reading.{Read, got, bad, andThen, readNumber, readItem, passItems, countOf, countAt, readCount}
+use Rattle.protocol.specs.Fields.{AtomSlot, Item, Count, countOf}
+use Rattle.protocol.specs.Reading.{Read, got, bad, andThen, readNumber, readItem, passItems, countAt, readCount}
 use Rattle.protocol.specs.Refusals.{badCount}
 use Rattle.protocol.proofs.Numbers.{whole}
 

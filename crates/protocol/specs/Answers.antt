@@ -2,7 +2,9 @@
 -- bytes consumed or written (0 for a refusal and for need-more), and what is handed back (none for a refusal and for need-more).
 use Prim.Native.Nat.{ℕ}
 use mathlib.Core.Bool.{Bool, true, false}
+use mathlib.Core.Logic.{_⊎_}
 use mathlib.Core.Option.{Option, some, none}
+use mathlib.Core.Path.{_≡_}
 use Rattle.protocol.specs.declared.Decoded.the-variants as D
 use Rattle.protocol.specs.declared.Decoded.{Decoded}
 use Rattle.protocol.specs.declared.Element.the-variants as E
@@ -26,6 +28,10 @@ needsMore = record { needMore = true; number = 0; place = 0; consumed = 0; value
 
 abbrev pub refusal : {X : Type 0} → ℕ → ℕ → Answer X
 refusal number place = record { needMore = false; number = number; place = place; consumed = 0; value = none }
+
+-- refused, or told need-more
+abbrev pub Unsuccessful : {X : Type 0} → Answer X → Type 0
+Unsuccessful a = (a ≡ needsMore) ⊎ ((number : ℕ) × (place : ℕ) × (a ≡ refusal number place))
 
 -- decoding: the record and the bytes consumed
 unfoldable pub ofDecoded : Decoded → Answer Message

@@ -35,26 +35,32 @@ lengthBy k p start s (pos n) =
     (cond (ltb (k .limit) n) (refuse lengthAboveLimit p)
     (cond (ltb (length s) (p + n)) more (framed k start (p + n))))
 
+-- where what tells a frame's kind stands, and where it is refused: a type byte, a code or an answer byte
+abbrev pub tagPlace : Envelope → ℕ
+tagPlace typed = 0
+tagPlace untyped = 4
+tagPlace bare = 0
+
 -- modes 0 and 1: type byte, length, body
 unfoldable pub typedBy : Option Kind → List ℕ → Header
-typedBy none s = refuse typeUnknown 0
+typedBy none s = refuse typeUnknown (tagPlace typed)
 typedBy (some k) s = cond (ltb (length s) 5) more (lengthBy k 1 5 s (signedOf 4 (numberAt 4 s 1)))
 
 -- mode 2: length, code, body
 unfoldable pub untypedBy : Option Kind → List ℕ → Header
-untypedBy none s = refuse typeUnknown 4
+untypedBy none s = refuse typeUnknown (tagPlace untyped)
 untypedBy (some k) s = lengthBy k 0 8 s (signedOf 4 (numberAt 4 s 0))
 
 -- modes 3 and 4: one byte
 unfoldable pub bareBy : Option Kind → Header
-bareBy none = refuse typeUnknown 0
+bareBy none = refuse typeUnknown (tagPlace bare)
 bareBy (some k) = framed k 1 1
 
 -- the type byte, code or answer byte
 abbrev pub tagAt : Envelope → List ℕ → ℕ
-tagAt typed s = numberAt 1 s 0
-tagAt untyped s = numberAt 4 s 4
-tagAt bare s = numberAt 1 s 0
+tagAt typed s = numberAt 1 s (tagPlace typed)
+tagAt untyped s = numberAt 4 s (tagPlace untyped)
+tagAt bare s = numberAt 1 s (tagPlace bare)
 
 -- kind is the kind that the tag tells, if any
 unfoldable pub headerIn : Envelope → Option Kind → List ℕ → Header

@@ -13,7 +13,7 @@ use Rattle.protocol.specs.declared.Element.{Element}
 use Rattle.protocol.specs.declared.List.{List as ListSlot}
 use Rattle.protocol.specs.declared.Rules.{Rules}
 use Rattle.protocol.specs.declared.Span.{Span}
-use Rattle.protocol.specs.Bytes.{Bytes, noZero, isOneOf, be, bitsOf}
+use Rattle.protocol.specs.Bytes.{Bytes, noZero, isOneOf, be, signedOf, bitsOf}
 use Rattle.protocol.specs.Each.{Each, bytesOfEach, slotsOfEach, ableEach, HoldsEach, leastOfEach}
 
 -- ---- atoms
@@ -145,9 +145,13 @@ noneEnds i (c ∷ cs) = not (zeroFirst (itemBytes i c)) && noneEnds i cs
 
 -- ---- fields
 
--- how a count's two bytes are read
+-- what a count's two bytes mean
 pub data Count : Type 0 where
   signedCount : Count
+
+-- the count that its two bytes are
+abbrev pub countOf : Count → ℕ → ℤ
+countOf signedCount n = signedOf 2 n
 
 -- the largest count that can be written
 abbrev pub most : Count → ℕ

@@ -11,7 +11,7 @@ use Rattle.protocol.specs.declared.Rules.{Rules}
 use Rattle.protocol.specs.declared.Span.{Span}
 use Rattle.protocol.specs.Bytes.{numberAt, signedOf, isOneOf}
 use Rattle.protocol.specs.Each.{Each}
-use Rattle.protocol.specs.Fields.{Atom, unsigned, signed, oneOf, text, value, rest, AtomSlot, Item, itemLeast, Count, signedCount, Field, one, counted, ended, Slot}
+use Rattle.protocol.specs.Fields.{Atom, unsigned, signed, oneOf, text, value, rest, AtomSlot, Item, itemLeast, Count, countOf, Field, one, counted, ended, Slot}
 use Rattle.protocol.specs.Refusals.{badCount, cut, notAllowed}
 
 -- what is read and the next place, or a refusal's number and place
@@ -83,9 +83,6 @@ readItem rules i f p = readEach (readAtom rules) (i .atoms) f p
 unfoldable pub passItems : Rules → Item → ℕ → List ℕ → ℕ → Read (Unit {0})
 passItems rules i zero f p = got tt p
 passItems rules i (suc n) f p = andThen (readItem rules i f p) (λ s q. passItems rules i n f q)
-
-abbrev pub countOf : Count → ℕ → ℤ
-countOf signedCount n = signedOf 2 n
 
 -- a count is refused when negative, or when so many of the smallest elements exceed the bytes left after it
 unfoldable pub countAt : ℕ → ℤ → List ℕ → ℕ → ℕ → Read ListSlot

@@ -13,6 +13,7 @@ use Rattle.protocol.specs.declared.List.{List as ListSlot}
 use Rattle.protocol.specs.declared.Message.the-variants as M
 use Rattle.protocol.specs.declared.Message.{Message}
 use Rattle.protocol.specs.declared.Span.{Span}
+use Rattle.protocol.specs.Answers.{Answer, success, needsMore, refusal}
 use Rattle.protocol.specs.Decode.{decodeOf}
 use Rattle.protocol.specs.Reading.{Read, got, bad, readValue}
 use Rattle.protocol.specs.Refusals.{noSuchElement, outputTooShort}
@@ -97,6 +98,12 @@ unfoldable pub rowBy : Decoded → ℕ → ℕ → Row
 rowBy (D.Record m n) starts lengths = rowFits (rowIn m) n starts lengths
 rowBy D.NeedMore starts lengths = R.NeedMore
 rowBy (D.Refused number place) starts lengths = R.Refused number place
+
+-- the row's values and the bytes consumed
+unfoldable pub ofRow : Row → Answer ListSlot
+ofRow (R.Is l n) = success l n
+ofRow R.NeedMore = needsMore
+ofRow (R.Refused number place) = refusal number place
 
 -- ---- the two lists
 
