@@ -6,19 +6,19 @@ use mathlib.Core.Logic.{_⊎_, inl, inr, ⊎-elim, ⊎-map, _↔_}
 use mathlib.Core.Option.{Option, some, none}
 use mathlib.Core.Path.{_≡_, refl, ap, sym, _∙_}
 use native.Mathlib.Omega.{arith}
-use borrow.Author.Tests.{leb-true, leb-false}
+use borrow.Author.Tests.{leb-true, leb-false, le-ltb}
 use lib.Dec.{leb}
 use lib.IntN.{ℤ, pos, negsuc}
 use lib.ListN.{length, take, drop, length-drop, length-take}
 use lib.Seq.{drop-drop}
 use Rattle.protocol.specs.declared.data.FieldDescription.{FieldDescription}
 use Rattle.protocol.specs.Encode.{items, oneBefore, valuesGiven, errorFieldsGiven, rowFieldGiven, rowFieldsGiven}
-use Rattle.protocol.specs.Bytes.{Bytes}
+use Rattle.protocol.specs.Bytes.{Bytes, partOf}
 use Rattle.protocol.specs.Each.{HoldsEach}
 use Rattle.protocol.specs.Fields.{ItemContent, ValueInRange, AtomInRange, ItemInRange, ItemsInRange}
 use Rattle.protocol.specs.Kinds.{oid, format, nullable, rowField, errorField}
 use Rattle.laws.specs.Arguments.{nth, Some, All, Unsigned, Signed, TypedField, itself, sizeOf, total, BelowNull, valueAt, Outside}
-use Rattle.laws.specs.EncodeStatements.{Values, ErrorFields, RowFields, NumberItems, ArgumentsInRange}
+use Rattle.laws.specs.EncodeStatements.{Values, ErrorFields, RowFieldIs, RowFields, NumberItems, ArgumentsInRange}
 use Rattle.laws.proofs.Numbers.{bytes-take, bytes-drop}
 
 -- ---- options
@@ -215,12 +215,20 @@ first-row d ds run fs e =
     let b = before (rowFieldGiven d run) (rowFieldsGiven ds run) fs (t .1) in
     record { fits = t .0; rest = b .rest; was = b .was; is = b .is }
 
-rows-items : (ds : List FieldDescription) (run : List ℕ) (fs : List (ItemContent rowField)) → rowFieldsGiven ds run ≡ some fs → (i : ℕ) (d : FieldDescription) → nth ds i ≡ some d → nth fs i ≡ some (rowFieldGiven d run)
+-- its name stands within the run, so the part of the run there is its bytes
+row-is : (d : FieldDescription) (run : List ℕ) → inside d run ≡ true → RowFieldIs run d (rowFieldGiven d run)
+unfolding partOf
+row-is d run h =
+    let name : partOf run (d .name .start) (d .name .len) ≡ take (d .name .len) (drop (d .name .start) run) = rw (le-ltb _ _ (leb-true _ _ h)) refl in
+    record { name = sym name; «table_id» = refl; «column_id» = refl; «type_id» = refl; «type_size» = refl; «type_modifier» = refl; «format_code» = refl }
+
+rows-items : (ds : List FieldDescription) (run : List ℕ) (fs : List (ItemContent rowField)) → rowFieldsGiven ds run ≡ some fs → (i : ℕ) (d : FieldDescription) → nth ds i ≡ some d → (c : ItemContent rowField) × (nth fs i ≡ some c) × RowFieldIs run d c
 unfolding nth
 rows-items [] run fs e i d h = let z : _≡_ {A = ℕ} 0 1 = cc in absurd (omega arith)
 rows-items (d ∷ ds) run fs e zero x h =
     let q : d ≡ x = cc in
-    rw (first-row d ds run fs e .is, q) refl
+    let f = first-row d ds run fs e in
+    (rowFieldGiven d run, rw (f .is) refl, rw (← q) (row-is d run (f .fits)))
 rows-items (d ∷ ds) run fs e (suc i) x h =
     let f = first-row d ds run fs e in
     rw (f .is) (rows-items ds run (f .rest) (f .was) i x h)

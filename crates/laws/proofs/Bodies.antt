@@ -69,7 +69,7 @@ last-stops (ended i) post t = tt
 
 -- ---- the bytes of fields are read as them
 
-field-back : (rules : Rules) (x : Field) (c : Content x) (post : List ℕ) → T (saneField x) → InRange x c → able rules x c ≡ true → LastField x post → ReadsBack bytes slot (read rules) x c post
+pub field-back : (rules : Rules) (x : Field) (c : Content x) (post : List ℕ) → T (saneField x) → InRange x c → able rules x c ≡ true → LastField x post → ReadsBack bytes slot (read rules) x c post
 unfolding bytes slot InRange able
 field-back rules (one a) c post t r h l pre = atom-back rules a c post t r h l pre
 field-back rules (counted k i) cs post t r h l pre = counted-back rules i t k cs pre post r h

@@ -9,6 +9,7 @@ use lib.IntN.{pos}
 use lib.ListN.{length, length-append}
 use lib.Seq.{take-append-seam}
 use Rattle.protocol.specs.declared.Rules.{Rules}
+use Rattle.protocol.specs.Answers.{ofDecoded}
 use Rattle.protocol.specs.Bytes.{numberAt, be}
 use Rattle.protocol.specs.Decode.{framed, lengthBy, typedBy, untypedBy, bareBy, tagAt, headerBy, headerOf, readBody, decodedBy, decodeBy, decodeOf}
 use Rattle.protocol.specs.Each.{Each, slotsOfEach}
@@ -46,7 +47,7 @@ large-enough rules m k c w = rw (smallest-is m (w .known) k (w .kind)) (above (m
 -- ---- the header of a frame is read as it
 
 -- a length within its bounds, of a frame that is there, is let through
-length-back : (k : Kind) (p start n : ℕ) (s : List ℕ) → k .smallest ≤ n → n ≤ k .limit → p + n ≤ length s → lengthBy k p start s (pos n) ≡ framed k start (p + n)
+pub length-back : (k : Kind) (p start n : ℕ) (s : List ℕ) → k .smallest ≤ n → n ≤ k .limit → p + n ≤ length s → lengthBy k p start s (pos n) ≡ framed k start (p + n)
 unfolding lengthBy
 length-back k p start n s small most there = rw (le-ltb _ _ small, le-ltb _ _ most, le-ltb _ _ there) refl
 
@@ -117,5 +118,5 @@ content-back rules m k c make w =
     rw (header-long e (k .tag) (length b)) at (rw (← length-append h b) at r)
 
 pub complete : Complete theDecoder
-unfolding decodeOf decodeBy decodedBy recordOf
+unfolding decodeOf decodeBy decodedBy recordOf ofDecoded
 complete rules m k c t w = rw (frame-back rules m k c t w, take-append-seam (frame (m .envelope) k c) t, content-back rules m k c (k .message) w) refl

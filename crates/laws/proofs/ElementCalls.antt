@@ -1,10 +1,11 @@
--- Element calls: decode's own refusal first, need-more exactly where decoding says so, more bytes, and the second form.
+-- Element calls: decode's own refusal first, need-more exactly where decoding says so, more bytes, and the second form, a value's bytes or the empty
+-- start of the stand-in.
 use Prim.Native.Nat.{ℕ, zero, suc}
 use mathlib.Core.Bool.{Bool, true, false, cond}
 use mathlib.Core.List.{List, [], _∷_, _++_}
 use mathlib.Core.Logic.{inl, inr}
 use mathlib.Core.Option.{Option, some, none}
-use mathlib.Core.Path.{_≡_, refl, sym, _∙_}
+use mathlib.Core.Path.{_≡_, refl, ap, sym, _∙_}
 use native.Mathlib.Omega.{arith}
 use lib.Dec.{ltb}
 use lib.ListN.{length, take}
@@ -15,23 +16,25 @@ use Rattle.protocol.specs.declared.Element.{Element}
 use Rattle.protocol.specs.declared.Message.{Message}
 use Rattle.protocol.specs.declared.Rules.{Rules}
 use Rattle.protocol.specs.declared.Span.{Span}
-use Rattle.protocol.specs.Answers.{ofDecoded, ofElement}
+use Rattle.protocol.specs.Answers.{Answer, Unsuccessful, ofDecoded, ofElement}
 use Rattle.protocol.specs.Decode.{Header, more, refuse, framed, headerOf, closed, readBody, bodyBy, bodyOf, decodedBy, decodeBy, decodeOf}
 use Rattle.protocol.specs.Each.{Each, slotsOfEach}
 use Rattle.protocol.specs.Elements.{Listed, listIn, readItemAt, elementBy, elementAt, elementIn, elementOf, valueOr}
 use Rattle.protocol.specs.Fields.{AtomSlot, valueSlot, atomSlot, Item, itemSlots, Field, one, counted, ended, Slot}
-use Rattle.protocol.specs.Kinds.{Kind, Mode, modes, IsIn, frontend, backend, nullable, valueElement}
+use Rattle.protocol.specs.Kinds.{Kind, nullable, valueElement}
 use Rattle.protocol.specs.Reading.{Read, got, bad, andThen, read, readEach}
 use Rattle.protocol.specs.Refusals.{bytesLeft, noSuchElement}
+use Rattle.protocol.specs.WellFormed.{bodyStart}
 use Rattle.protocol.proofs.Framed.{framed-is, framed-ends, Framed}
-use Rattle.protocol.proofs.Open.{the-table}
-use Rattle.laws.specs.ElementStatements.{RefusedFirst, ElementsNeedMore, ElementsMoreBytes, StandIns, ownOr}
+use Rattle.laws.specs.ElementStatements.{RefusedFirst, ElementsNeedMore, ElementsMoreBytes, StandIns, ownOr, EmptyStarts}
 use Rattle.laws.specs.Items.{Found, AtomsPlaced, IsItem, Answers}
 use Rattle.laws.specs.Places.{AtomPlaced, ValuePlaced}
 use Rattle.laws.specs.Statements.{theDecoder, theElementCall}
+use Rattle.laws.proofs.Answered.{refused, element-is, element-refused, element-waits}
 use Rattle.laws.proofs.Elements.{elements}
 use Rattle.laws.proofs.Faults.{handed}
 use Rattle.laws.proofs.Headers.{body-answers, header-again}
+use Rattle.laws.proofs.Speaking.{Speaks, Speaking, row-speaks, not-values, OfList, found-of}
 use Rattle.laws.proofs.Table.{mode-found, kind-found}
 
 -- ---- a body that is refused is refused whatever is made of its slots
@@ -45,98 +48,11 @@ unfolding closed
 body-same f make other number place (got v q) e = closed-same f q (make v) (other v) number place (ltb q (length f)) e
 body-same f make other number place (bad k x) e = handed e
 
--- ---- an item's element is an answer
-
-abbrev Speaks : Item → Type 0
-Speaks i = (v : Each AtomSlot (i .atoms)) → ofElement (i .element v) .needMore ≡ false
-
--- every list of a body has items that do
-abbrev Speaking : List Field → Type 0
-Speaking [] = Unit {0}
-Speaking (one a ∷ xs) = Speaking xs
-Speaking (counted k i ∷ xs) = Speaks i × Speaking xs
-Speaking (ended i ∷ xs) = Speaks i × Speaking xs
-
--- of each of some
-abbrev All : {A : Type 0} → (A → Type 0) → List A → Type 0
-All P [] = Unit {0}
-All P (x ∷ xs) = P x × All P xs
-
-in-all : {A : Type 0} (P : A → Type 0) (xs : List A) → All P xs → (x : A) → IsIn x xs → P x
-in-all P (y ∷ ys) h x (inl e) = rw e (h .0)
-in-all P (y ∷ ys) h x (inr i) = in-all P ys (h .1) x i
-
-value-speaks : (v : Option Span) → ofElement (valueElement v) .needMore ≡ false
-unfolding valueElement ofElement
-value-speaks none = refl
-value-speaks (some v) = refl
-
-abbrev AllSpeak : Mode → Type 0
-AllSpeak m = All (λ (k : Kind). Speaking (k .body)) (m .kinds)
-
--- the table's rows in their order: most have no list
-frontend-speaks : AllSpeak frontend
-unfolding the-table ofElement
-frontend-speaks = ((λ _. refl, tt), ((λ _. refl, (λ v. value-speaks (v .0), (λ _. refl, tt))), (tt, (tt, (tt, (tt, (tt, (tt, (tt, (tt, tt))))))))))
-
-backend-speaks : AllSpeak backend
-unfolding the-table ofElement
-backend-speaks = (
-  tt,
-  (
-    tt,
-    (
-      tt,
-      (
-        tt,
-        (
-          tt,
-          (
-            tt,
-            (
-              tt,
-              (
-                (λ _. refl, tt),
-                (
-                  (λ _. refl, tt),
-                  (
-                    (λ v. value-speaks (v .0), tt),
-                    (
-                      tt,
-                      (
-                        tt,
-                        (
-                          (λ _. refl, tt),
-                          (
-                            (λ _. refl, tt),
-                            ((λ _. refl, tt), ((λ _. refl, tt), ((λ _. refl, tt), (tt, (tt, tt))))),
-                          ),
-                        ),
-                      ),
-                    ),
-                  ),
-                ),
-              ),
-            ),
-          ),
-        ),
-      ),
-    ),
-  ),
-)
-
-all-speak : All AllSpeak modes
-unfolding the-table
-all-speak = (frontend-speaks, (backend-speaks, ((tt, tt), ((tt, (tt, tt)), ((tt, (tt, tt)), tt)))))
-
-pub row-speaks : (m : Mode) → IsIn m modes → (k : Kind) → IsIn k (m .kinds) → Speaking (k .body)
-row-speaks m i k j = in-all (λ (k : Kind). Speaking (k .body)) (m .kinds) (in-all AllSpeak modes all-speak m i) k j
-
 -- ---- a whole frame's element is an answer
 
 read-speaks : (i : Item) → Speaks i → (r : Read (Each AtomSlot (i .atoms))) → ofElement (elementBy (i .element) r) .needMore ≡ false
 unfolding elementBy ofElement
-read-speaks i h (got v q) = h v
+read-speaks i h (got v q) = ap (λ (a : Answer Element). a .needMore) (h .answers v)
 read-speaks i h (bad number place) = refl
 
 at-speaks : (rules : Rules) (f : List ℕ) (n : ℕ) (o : Listed) → Speaks (o .item) → (t : Bool) → ofElement (cond t (elementBy (o .item .element) (readItemAt rules (o .item) n f (o .list .start))) (E.Refused noSuchElement 0)) .needMore ≡ false
@@ -211,8 +127,8 @@ module _ (rules : Rules) (s : List ℕ) (l n : ℕ) where
   longer t (framed k start end) h = rw (take-append-le end s t (framed-ends rules s k start end (framed-is rules s k start end h) .1)) refl
 
 pub refusedFirst : RefusedFirst theDecoder theElementCall
-unfolding elementOf decodeOf
-refusedFirst rules s l n number place e = refused-by rules s l n (headerOf rules s) number place e
+unfolding elementOf decodeOf ofElement
+refusedFirst rules s l n number place e = ap ofElement (refused-by rules s l n (headerOf rules s) number place (refused e))
 
 pub elementsNeedMore : ElementsNeedMore theDecoder theElementCall
 unfolding elementOf decodeOf
@@ -220,16 +136,36 @@ elementsNeedMore rules s l n = waits-by rules s l n (headerOf rules s) refl
 
 pub elementsMoreBytes : ElementsMoreBytes theElementCall
 unfolding elementOf
-elementsMoreBytes rules s t l n e = rw (header-again s t rules (answered rules s l n (headerOf rules s) e)) (longer rules s l n t (headerOf rules s) refl)
+elementsMoreBytes rules s t l n e = rw (header-again s t rules (answered rules s l n (headerOf rules s) e)) (ap ofElement (longer rules s l n t (headerOf rules s) refl))
 
 -- the second form, of an item that is a value
 own-by : (s stand : List ℕ) (place : ℕ) (own : Option (List ℕ)) (e : Element) → IsItem s (record { item = nullable; place = place; content = (own, tt) }) e → valueOr s stand e ≡ ownOr stand own
 unfolding valueOr valueElement itemSlots slotsOfEach atomSlot valueSlot AtomsPlaced AtomPlaced ValuePlaced
-own-by s stand place none e h = rw (h .is) refl
-own-by s stand place (some own) e h = rw (h .is) (h .placed .0)
+own-by s stand place none e h = rw (element-is (h .is)) refl
+own-by s stand place (some own) e h = rw (element-is (h .is)) (h .placed .0)
 
 value-by : (s stand : List ℕ) (place : ℕ) (own : Option (List ℕ)) (e : Element) (o : Option Found) → o ≡ some (record { item = nullable; place = place; content = (own, tt) }) → Answers s o e → valueOr s stand e ≡ ownOr stand own
 value-by s stand place own e o q a = own-by s stand place own e (rw q at a)
 
 pub standIns : StandIns theElementCall
 standIns rules m k c t stand l n place own w q = value-by _ stand place own _ _ q (elements rules m k c t l n w)
+
+-- ---- the empty start of the stand-in
+
+refused-empty : (s stand : List ℕ) (e : Element) → Unsuccessful (ofElement e) → valueOr s stand e ≡ take 0 stand
+unfolding valueOr
+refused-empty s stand e (inl h) = rw (element-waits h) refl
+refused-empty s stand e (inr (number, place, h)) = rw (element-refused h) refl
+
+other-empty : (s stand : List ℕ) (o : Option Found) (e : Element) → OfList false o → Answers s o e → valueOr s stand e ≡ take 0 stand
+unfolding OfList
+other-empty s stand none e t a = refused-empty s stand e (inr (noSuchElement, 0, a))
+other-empty s stand (some x) e t a = rw (element-is (a .is)) (t .0 .plain (t .1) s stand (itemSlots (x .item) (x .place) (x .content)))
+
+pub emptyStarts : EmptyStarts theElementCall
+emptyStarts = record {
+  refused = λ rules s stand l n h. refused-empty s stand _ h;
+  others = λ rules m k c t stand l n w no.
+      let f = found-of (k .body) (row-speaks m (w .known) k (w .kind)) (bodyStart (m .envelope)) c l n in
+      other-empty _ stand _ _ (rw (not-values m (w .known) k (w .kind) l no) at f) (elements rules m k c t l n w);
+}

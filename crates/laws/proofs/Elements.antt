@@ -3,7 +3,7 @@ use Prim.Native.Nat.{ℕ, zero, suc, _+_, _≤_, _<_}
 use mathlib.Core.Bool.{Bool, true, false, cond}
 use mathlib.Core.List.{List, [], _∷_, _++_, append-assoc, append-nil}
 use mathlib.Core.Option.{Option, some, none}
-use mathlib.Core.Path.{_≡_, refl, ap, sym}
+use mathlib.Core.Path.{_≡_, refl, ap, sym, _∙_}
 use native.Mathlib.Omega.{arith}
 use borrow.Author.Tests.{ltb-true, ltb-false}
 use lib.Dec.{T, leb, ltb}
@@ -12,6 +12,7 @@ use lib.Seq.{take-append-seam}
 use Rattle.protocol.specs.declared.Element.the-variants as E
 use Rattle.protocol.specs.declared.Element.{Element}
 use Rattle.protocol.specs.declared.Rules.{Rules}
+use Rattle.protocol.specs.Answers.{ofElement}
 use Rattle.protocol.specs.Bytes.{be}
 use Rattle.protocol.specs.Each.{Each, bytesOfEach, slotsOfEach, ableEach, HoldsEach}
 use Rattle.protocol.specs.Elements.{listIn, readItemAt, elementBy, elementAt, elementIn, elementOf}
@@ -30,6 +31,7 @@ use Rattle.laws.proofs.Fields.{atom-placed}
 use Rattle.laws.proofs.Items.{both, saneItem, item-back}
 use Rattle.laws.proofs.Numbers.{length-be}
 use Rattle.laws.proofs.Rows.{row-sane}
+use Rattle.laws.proofs.Speaking.{row-speaks, valueList, OfList, found-of}
 use Rattle.laws.proofs.Table.{and-left, and-right}
 
 -- what is answered of an item that was found, or of none
@@ -40,7 +42,7 @@ answerOf (some x) = x .item .element (itemSlots (x .item) (x .place) (x .content
 -- ---- item n of a list
 
 -- past the last there is none
-no-item : (i : Item) (p : ℕ) (cs : List (ItemContent i)) (n : ℕ) → length cs ≤ n → itemFrom i p cs n ≡ none
+pub no-item : (i : Item) (p : ℕ) (cs : List (ItemContent i)) (n : ℕ) → length cs ≤ n → itemFrom i p cs n ≡ none
 unfolding itemFrom
 no-item i p [] n h = refl
 no-item i p (c ∷ cs) zero h = absurd (omega arith)
@@ -163,10 +165,10 @@ found-placed (ended i ∷ xs) c (suc l) n pre post = placed-after (ended i) xs c
 
 -- ---- the theorem
 
-answers : (s : List ℕ) (o : Option Found) (e : Element) → e ≡ answerOf o → Placed s o → Answers s o e
-unfolding Placed
-answers s none e h p = h
-answers s (some x) e h p = record { is = h; placed = p }
+answers : (s : List ℕ) (o : Option Found) (e : Element) → e ≡ answerOf o → Placed s o → (b : Bool) → OfList b o → Answers s o e
+unfolding Placed OfList ofElement
+answers s none e h p b t = ap ofElement h
+answers s (some x) e h p b t = record { is = ap ofElement h ∙ t .0 .answers (itemSlots (x .item) (x .place) (x .content)); placed = p }
 
 pub element-is : (rules : Rules) (m : Mode) (k : Kind) (c : Contents k) (t : List ℕ) (l n : ℕ) → WellFormed rules m k c → elementOf rules (frame (m .envelope) k c ++ t) l n ≡ answerOf (found (k .body) (bodyStart (m .envelope)) c l n)
 unfolding elementOf elementIn elementBy Found-at frame bodyBytes
@@ -185,4 +187,5 @@ elements rules m k c t l n w =
     let b = bodyBytes k c in
     let h = header e (k .tag) (length b) in
     let placed = rw (header-long e (k .tag) (length b), ← append-assoc h b t) at (found-placed (k .body) c l n h t) in
-    answers (frame e k c ++ t) (found (k .body) (bodyStart e) c l n) _ (element-is rules m k c t l n w) placed
+    let says = found-of (k .body) (row-speaks m (w .known) k (w .kind)) (bodyStart e) c l n in
+    answers (frame e k c ++ t) (found (k .body) (bodyStart e) c l n) _ (element-is rules m k c t l n w) placed (valueList (k .body) l) says

@@ -13,6 +13,7 @@ use lib.Seq.{take-append-seam, drop-append-seam}
 use Rattle.protocol.specs.declared.Encoded.the-variants as N
 use Rattle.protocol.specs.declared.Encoded.{Encoded}
 use Rattle.protocol.specs.declared.Rules.{Rules}
+use Rattle.protocol.specs.Answers.{success, refusal, ofEncoded}
 use Rattle.protocol.specs.Each.{Each, ableEach, leastOfEach}
 use Rattle.protocol.specs.Encode.{encodedBy, writtenBy}
 use Rattle.protocol.specs.Fields.{Atom, unsigned, signed, oneOf, text, value, rest, AtomContent, atomAble, Item, ItemContent, itemAble, itemsAble, Field, one, counted, ended, Content, able, least}
@@ -21,6 +22,7 @@ use Rattle.protocol.specs.Refusals.{lengthAboveLimit, outputTooShort, notRepres
 use Rattle.protocol.specs.WellFormed.{Contents, bodyBytes, header, lengthOf, frame, allAble, WellFormed}
 use Rattle.laws.specs.EncodeStatements.{theEncoder, Contracts, Representable, WithinLimit, HasRoom, EncodesExactly, Exactly, KeepsTheRest, Unchanged, Decodes, RoundTrip}
 use Rattle.laws.specs.Statements.{theDecoder, theElementCall}
+use Rattle.laws.proofs.Answered.{done, encoded-refused, encoded-unsuccessful}
 use Rattle.laws.proofs.Complete.{complete, header-long}
 use Rattle.laws.proofs.Elements.{elements}
 use Rattle.laws.proofs.Fields.{fields-placed}
@@ -40,6 +42,15 @@ no a b = (λ h. absurd (a h), λ h. absurd (b h))
 
 through : {A B C : Type 0} → A ↔ B → B ↔ C → A ↔ C
 through f g = (λ a. g .0 (f .0 a), λ c. f .1 (g .1 c))
+
+-- an answer's case, by what it is set out as
+says-refused : {r : Encoded} {number place : ℕ} → (ofEncoded r ≡ refusal number place) ↔ (r ≡ N.Refused number place)
+unfolding ofEncoded
+says-refused = (encoded-refused, λ e. rw e refl)
+
+says-done : {r : Encoded} {n : ℕ} → (ofEncoded r ≡ success tt n) ↔ (r ≡ N.Done n)
+unfolding ofEncoded
+says-done = (done, λ e. rw e refl)
 
 le-exactly : (a b : ℕ) → (a ≤ b) ↔ (ltb b a ≡ false)
 le-exactly a b = (le-ltb _ _, ltb-false _ _)
@@ -147,28 +158,28 @@ module _ (m : Mode) (k : Kind) where
   exactly-by none out =
       let v = verdict-none out in
       record {
-        ten = v .ten;
-        four = v .four;
-        nine = v .nine;
-        done = λ n. no (λ e. given-none (λ x. canBe x ≡ true) (v .done n .0 e .0 .0)) (λ h. given-none (λ x. canBe x ≡ true) (h .0 .0));
+        ten = through says-refused (v .ten);
+        four = through says-refused (v .four);
+        nine = through says-refused (v .nine);
+        done = λ n. through says-done (no (λ e. given-none (λ x. canBe x ≡ true) (v .done n .0 e .0 .0)) (λ h. given-none (λ x. canBe x ≡ true) (h .0 .0)));
         writes = λ n c e _. let z : _≡_ {A = ℕ} 0 1 = cc in absurd (omega arith);
       }
   exactly-by (some c) out =
       let v = verdict c out in
       record {
-        ten = v .ten;
-        four = v .four;
-        nine = v .nine;
-        done = λ n. through (v .done n) (λ h. (h .0, λ x e. let q : c ≡ x = cc in rw (← q) (h .1)), λ h. (h .0, h .1 c refl));
-        writes = λ n x e d. let q : c ≡ x = cc in rw (← q) (written c out n d);
+        ten = through says-refused (v .ten);
+        four = through says-refused (v .four);
+        nine = through says-refused (v .nine);
+        done = λ n. through says-done (through (v .done n) (λ h. (h .0, λ x e. let q : c ≡ x = cc in rw (← q) (h .1)), λ h. (h .0, h .1 c refl)));
+        writes = λ n x e d. let q : c ≡ x = cc in rw (← q) (written c out n (done d));
       }
 
   keeps-by : (given : Option (Contents k)) (out : List ℕ) → KeepsTheRest theEncoder m k given out
   unfolding writtenBy
-  keeps-by none out = record { refused = λ number place e. refl; later = λ n e. refl }
+  keeps-by none out = record { refused = λ e. refl; later = λ n e. refl }
   keeps-by (some c) out = record {
-    refused = λ number place e. ap (λ (r : Encoded). writtenBy m k (some c) r out) e;
-    later = λ n e. let w = wrote c out n e in rw (w .1, w .0) (drop-append-seam (frame (m .envelope) k c) (drop (size c) out));
+    refused = λ e. let r = encoded-unsuccessful _ e in ap (λ (r : Encoded). writtenBy m k (some c) r out) (r .2);
+    later = λ n e. let w = wrote c out n (done e) in rw (w .1, w .0) (drop-append-seam (frame (m .envelope) k c) (drop (size c) out));
   }
 
 pub exactly : Exactly theEncoder
@@ -242,7 +253,7 @@ decodes rules m k c t w =
 pub round-trip : RoundTrip theEncoder theDecoder theElementCall
 round-trip m k c out t n i j inRange e rules reads i2 is j2 =
     let same = same-envelope m reads k i j i2 j2 in
-    let ok = verdict m k c out .done n .0 e in
+    let ok = verdict m k c out .done n .0 (done e) in
     let able = given-is m k (λ x. canBe m k x ≡ true) c .0 (ok .0 .0) in
     let most = given-is m k (λ x. word m k x ≤ k .limit) c .0 (ok .0 .1) in
     let w : WellFormed rules reads k c = record {
@@ -253,7 +264,7 @@ round-trip m k c out t n i j inRange e rules reads i2 is j2 =
       writable = able-any rules (record { mode = m .mode }) k c ∙ able;
       withinLimit = rw (← same) most;
     } in
-    rw (written m k c out n e, ok .1, same) (decodes rules reads k c t w)
+    rw (written m k c out n (done e), ok .1, same) (decodes rules reads k c t w)
 
 -- ---- what the contracts say
 

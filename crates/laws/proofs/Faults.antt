@@ -23,9 +23,9 @@ use Rattle.protocol.proofs.Counts.{Counted, counted-is}
 use Rattle.protocol.proofs.Find.{every}
 use Rattle.protocol.proofs.Numbers.{whole}
 use Rattle.laws.specs.Faults.{Short, NotOneOf, Unended, BelowNull, LongValue, AtomFault, AtomBefore, AtomsFault, here, later, ItemsBefore, CountFault, ItemFault, FieldFault}
-use Rattle.laws.proofs.Atoms.{saneAtom, AtomWas, atom-was}
+use Rattle.laws.proofs.Atoms.{AtomWas, atom-was}
 use Rattle.laws.proofs.Bodies.{saneField}
-use Rattle.laws.proofs.Items.{inItem, in-item-sane, saneItem, item-least, item-was, ItemsWere, no-items, item-before}
+use Rattle.laws.proofs.Items.{inItem, in-item-sane, in-item-last, saneItem, item-least, item-was, ItemsWere, no-items, item-before}
 use Rattle.laws.proofs.Lists.{EndedWere, ended-none, ended-item}
 use Rattle.laws.proofs.Table.{and-left, and-right}
 
@@ -145,27 +145,27 @@ module _ (rules : Rules) (f : List ℕ) (b : Bytes f) where
   AtomsRefused : List Atom → ℕ → ℕ → ℕ → Type 0
   AtomsRefused xs p number place = (at : ℕ) × AtomsFault rules xs (drop p f) number at × (place ≡ p + at)
 
-  later-by : (a : Atom) (xs : List Atom) (p q : ℕ) (v : AtomSlot a) (number place : ℕ) → AtomWas rules a f p v q → AtomsRefused xs q number place → AtomsRefused (a ∷ xs) p number place
+  later-by : (a : Atom) → T (inItem a) → (xs : List Atom) (p q : ℕ) (v : AtomSlot a) (number place : ℕ) → AtomWas rules a f p v q → AtomsRefused xs q number place → AtomsRefused (a ∷ xs) p number place
   unfolding AtomsRefused
-  later-by a xs p q v number place w h =
+  later-by a t xs p q v number place w h =
       let n = length (atomBytes a (w .content)) in
-      let before : AtomBefore rules a (drop p f) (drop q f) n = record { content = w .content; inRange = w .inRange; writable = w .writable; split = w .split; place = refl } in
+      let before : AtomBefore rules a (drop p f) (drop q f) n = record { content = w .content; inRange = w .inRange; writable = w .writable; split = w .split; last = in-item-last a (drop q f) t; place = refl } in
       (n + h .0, later before (h .1), omega (arith, w .next, h .2))
 
-  rest-fault : (a : Atom) (xs : List Atom) (p q : ℕ) (v : AtomSlot a) (number place : ℕ) → AtomWas rules a f p v q → (r : Read (Each AtomSlot xs)) → readEach (readAtom rules) xs f q ≡ r → (readEach (readAtom rules) xs f q ≡ bad number place → AtomsRefused xs q number place) → andThen {Y = Each AtomSlot (a ∷ xs)} r (λ ss e. got (record { 0 = v; 1 = ss }) e) ≡ bad number place → AtomsRefused (a ∷ xs) p number place
-  rest-fault a xs p q v number place w (got ss x) r ih e = let z : _≡_ {A = ℕ} 0 1 = cc in absurd (omega arith)
-  rest-fault a xs p q v number place w (bad k x) r ih e = later-by a xs p q v number place w (ih (r ∙ handed e))
+  rest-fault : (a : Atom) → T (inItem a) → (xs : List Atom) (p q : ℕ) (v : AtomSlot a) (number place : ℕ) → AtomWas rules a f p v q → (r : Read (Each AtomSlot xs)) → readEach (readAtom rules) xs f q ≡ r → (readEach (readAtom rules) xs f q ≡ bad number place → AtomsRefused xs q number place) → andThen {Y = Each AtomSlot (a ∷ xs)} r (λ ss e. got (record { 0 = v; 1 = ss }) e) ≡ bad number place → AtomsRefused (a ∷ xs) p number place
+  rest-fault a t xs p q v number place w (got ss x) r ih e = let z : _≡_ {A = ℕ} 0 1 = cc in absurd (omega arith)
+  rest-fault a t xs p q v number place w (bad k x) r ih e = later-by a t xs p q v number place w (ih (r ∙ handed e))
 
-  first-fault : (a : Atom) (xs : List Atom) (p number place : ℕ) → T (saneAtom a) → p ≤ length f → (r : Read (AtomSlot a)) → readAtom rules a f p ≡ r → ((q : ℕ) → q ≤ length f → readEach (readAtom rules) xs f q ≡ bad number place → AtomsRefused xs q number place) → andThen {Y = Each AtomSlot (a ∷ xs)} r (λ v q. andThen (readEach (readAtom rules) xs f q) (λ ss e. got (record { 0 = v; 1 = ss }) e)) ≡ bad number place → AtomsRefused (a ∷ xs) p number place
+  first-fault : (a : Atom) (xs : List Atom) (p number place : ℕ) → T (inItem a) → p ≤ length f → (r : Read (AtomSlot a)) → readAtom rules a f p ≡ r → ((q : ℕ) → q ≤ length f → readEach (readAtom rules) xs f q ≡ bad number place → AtomsRefused xs q number place) → andThen {Y = Each AtomSlot (a ∷ xs)} r (λ v q. andThen (readEach (readAtom rules) xs f q) (λ ss e. got (record { 0 = v; 1 = ss }) e)) ≡ bad number place → AtomsRefused (a ∷ xs) p number place
   unfolding AtomsRefused
   first-fault a xs p number place t l (bad k x) r ih e = let h = atom-fault p l a number place (r ∙ handed e) in (0, here (h .0), omega (arith, h .1))
   first-fault a xs p number place t l (got v q) r ih e =
-      let w = atom-was rules f b p a t v q l r in
-      rest-fault a xs p q v number place w (readEach (readAtom rules) xs f q) refl (ih q (w .within)) e
+      let w = atom-was rules f b p a (in-item-sane a t) v q l r in
+      rest-fault a t xs p q v number place w (readEach (readAtom rules) xs f q) refl (ih q (w .within)) e
 
   atoms-fault : (xs : List Atom) → T (every inItem xs) → (p number place : ℕ) → p ≤ length f → readEach (readAtom rules) xs f p ≡ bad number place → AtomsRefused xs p number place
   atoms-fault [] t p number place l e = let z : _≡_ {A = ℕ} 0 1 = cc in absurd (omega arith)
-  atoms-fault (a ∷ xs) t p number place l e = first-fault a xs p number place (in-item-sane a (and-left (inItem a) (every inItem xs) t)) l (readAtom rules a f p) refl (λ q m r. atoms-fault xs (and-right (inItem a) (every inItem xs) t) q number place m r) e
+  atoms-fault (a ∷ xs) t p number place l e = first-fault a xs p number place (and-left (inItem a) (every inItem xs) t) l (readAtom rules a f p) refl (λ q m r. atoms-fault xs (and-right (inItem a) (every inItem xs) t) q number place m r) e
 
   module _ (i : Item) (sane : T (saneItem i)) where
     item-fault : (p number place : ℕ) → p ≤ length f → readItem rules i f p ≡ bad number place → AtomsRefused (i .atoms) p number place
@@ -241,8 +241,7 @@ module _ (rules : Rules) (f : List ℕ) (b : Bytes f) where
               first = first;
               inside = fault .0;
               after = drop (h .stop) f;
-              header = t .0;
-              count = rw (← t .1) (w .count);
+              count = record { there = t .0; is = rw (← t .1) (w .count); fit = rw same (simp length-drop (omega (arith, w .room))) };
               items = rw same (items-right (h .before) q (h .stop) items);
               fewer = h .fewer;
               fault = fault .1;

@@ -5,7 +5,7 @@ use mathlib.Core.Bool.{Bool, true, false, cond}
 use mathlib.Core.List.{List, _++_}
 use mathlib.Core.Logic.{_↔_}
 use mathlib.Core.Option.{Option, some, none}
-use mathlib.Core.Path.{_≡_, refl, sym, _∙_}
+use mathlib.Core.Path.{_≡_, refl, ap, sym, _∙_}
 use native.Mathlib.Omega.{arith}
 use borrow.Author.Tests.{ltb-false, le-ltb}
 use lib.Dec.{ltb, eqb, eqb·suc-zero}
@@ -14,8 +14,9 @@ use lib.ListN.{length, take, length-append}
 use lib.Seq.{take-append-seam}
 use Rattle.protocol.specs.declared.Body.the-variants as B
 use Rattle.protocol.specs.declared.Body.{Body}
+use Rattle.protocol.specs.declared.Message.{Message}
 use Rattle.protocol.specs.declared.Rules.{Rules}
-use Rattle.protocol.specs.Answers.{ofDecoded}
+use Rattle.protocol.specs.Answers.{Answer, needsMore, ofDecoded}
 use Rattle.protocol.specs.Bytes.{numberAt}
 use Rattle.protocol.specs.Decode.{Header, more, refuse, framed, lengthBy, typedBy, untypedBy, bareBy, tagAt, headerIn, headerBy, headerOf, bodyOf, decodedBy, decodeBy, decodeOf}
 use Rattle.protocol.specs.Kinds.{Envelope, typed, untyped, bare, Kind, Mode, modeOf, kindIn}
@@ -63,9 +64,9 @@ waits-by rules s (refuse number place) e = cc
 waits-by rules s (framed k start end) e = cc (body-answers (bodyOf rules k (take end s) start) end)
 
 -- decoding waits exactly where its header does
-pub decoding-waits : (rules : Rules) (s : List ℕ) → (ofDecoded (decodeOf rules s) .needMore ≡ true) ↔ (headerOf rules s ≡ more)
+pub decoding-waits : (rules : Rules) (s : List ℕ) → (ofDecoded (decodeOf rules s) ≡ needsMore) ↔ (headerOf rules s ≡ more)
 unfolding decodeOf decodeBy ofDecoded
-decoding-waits rules s = (waits-by rules s (headerOf rules s), λ e. rw e refl)
+decoding-waits rules s = (λ e. waits-by rules s (headerOf rules s) (ap (λ (a : Answer Message). a .needMore) e), λ e. rw e refl)
 
 -- ---- bytes that come after s
 

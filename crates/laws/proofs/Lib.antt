@@ -1,3 +1,4 @@
+pub mod Answered
 pub mod Numbers
 pub mod EachReads
 pub mod Atoms
@@ -9,7 +10,9 @@ pub mod Complete
 pub mod Sound
 pub mod Fields
 pub mod Faults
+pub mod Refused
 pub mod Refusals
+pub mod Speaking
 pub mod Elements
 pub mod ElementCalls
 pub mod Arguments
@@ -21,6 +24,6 @@ pub mod MoreBytes
 pub mod NeedMore
 pub mod InOrder
 pub mod RowEntries
-pub mod Encoders
+pub mod ByName
 pub mod Tight
 pub mod Rejected

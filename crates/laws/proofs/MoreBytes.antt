@@ -2,7 +2,7 @@
 use Prim.Native.Nat.{ℕ}
 use mathlib.Core.Bool.{false}
 use mathlib.Core.List.{List, _++_}
-use mathlib.Core.Path.{_≡_, refl}
+use mathlib.Core.Path.{_≡_, refl, ap}
 use native.Mathlib.Omega.{arith}
 use lib.Seq.{take-append-le}
 use Rattle.protocol.specs.declared.Rules.{Rules}
@@ -31,4 +31,4 @@ longer rules s t (framed k start end) e =
 -- more bytes never change an answer
 pub moreBytes : MoreBytes theDecoder
 unfolding decodeOf
-moreBytes rules s t answers = rw (header-again s t rules (settled rules s answers)) (longer rules s t (headerOf rules s) refl)
+moreBytes rules s t answers = rw (header-again s t rules (settled rules s answers)) (ap ofDecoded (longer rules s t (headerOf rules s) refl))

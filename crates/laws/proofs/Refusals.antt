@@ -1,38 +1,42 @@
--- Law 7: a refusal names its fault. One from 5 to 8 has right contents before it, up to its place, and there the fault that document 01's table
--- names; one from 1 to 4 does so of the header.
+-- Law 7: decoding refuses exactly where a fault stands. A refusal from 5 to 8 has right contents before it, up to its place, and there the fault that
+-- the table names; one from 1 to 4 does so of the header. And law 8: a buffer has one fault at most.
 use Prim.Native.Nat.{ℕ, _+_, _≤_}
 use mathlib.Core.Bool.{Bool, true, false, cond}
 use mathlib.Core.List.{List, [], _∷_}
 use mathlib.Core.Logic.{_⊎_, inl, inr}
 use mathlib.Core.Option.{Option, some, none}
-use mathlib.Core.Path.{_≡_, refl, sym, _∙_}
+use mathlib.Core.Path.{_≡_, refl, ap, sym, _∙_}
 use native.Mathlib.Omega.{arith}
-use borrow.Author.Tests.{ltb-true, ltb-false}
+use borrow.Author.Tests.{ltb-true, ltb-false, lt-ltb, le-ltb}
 use lib.Dec.{T, ltb}
 use lib.IntN.{ℤ, pos, negsuc}
 use lib.ListN.{length, take, drop, length-drop}
-use lib.Seq.{length-take-le}
+use lib.Seq.{length-take-le, drop-length}
 use Rattle.protocol.specs.declared.Decoded.the-variants as D
 use Rattle.protocol.specs.declared.Message.{Message}
 use Rattle.protocol.specs.declared.Rules.{Rules}
+use Rattle.protocol.specs.Answers.{ofDecoded}
 use Rattle.protocol.specs.Bytes.{Bytes, numberAt, signedOf}
-use Rattle.protocol.specs.Decode.{Header, more, refuse, framed, lengthBy, typedBy, untypedBy, bareBy, tagAt, headerBy, headerOf, closed, bodyBy, readBody, decodedBy, decodeBy, decodeOf}
+use Rattle.protocol.specs.Decode.{Header, more, refuse, framed, lengthBy, typedBy, untypedBy, bareBy, tagAt, headerIn, headerBy, headerOf, closed, bodyBy, readBody, decodedBy, decodeBy, decodeOf}
 use Rattle.protocol.specs.Each.{Each}
-use Rattle.protocol.specs.Fields.{Field, Slot, bytes}
+use Rattle.protocol.specs.Fields.{unsigned, signed, oneOf, text, value, rest, Field, one, counted, ended, Slot, bytes}
 use Rattle.protocol.specs.Kinds.{Envelope, typed, untyped, bare, Kind, Mode, modes, IsIn, modeOf, kindIn}
 use Rattle.protocol.specs.Reading.{Read, got, bad, andThen, read, readEach}
 use Rattle.protocol.specs.Refusals.{modeUnknown, typeUnknown, lengthTooSmall, lengthAboveLimit, bytesLeft}
-use Rattle.protocol.specs.WellFormed.{bodyStart}
+use Rattle.protocol.specs.WellFormed.{lengthOf, bodyStart}
 use Rattle.protocol.proofs.Framed.{Framing, Framed, framed-is, framed-ends}
 use Rattle.protocol.proofs.Find.{every}
-use Rattle.laws.specs.Faults.{FieldBefore, BodyFault, left, here, later, LengthFault, Unknown, HeaderFault, FrameEnds}
-use Rattle.laws.specs.Statements.{Faulty, UnknownMode, BadHeader, Refusals, theDecoder}
+use Rattle.laws.specs.Faults.{LastField, FieldBefore, BodyFault, left, here, later, LengthFault, Unknown, HeaderFault, FrameEnds}
+use Rattle.laws.specs.Statements.{Faulty, UnknownMode, BadHeader, FaultOf, Refusals, OneFault, theDecoder}
+use Rattle.laws.proofs.Answered.{refused}
 use Rattle.laws.proofs.Bodies.{saneField, field-was}
+use Rattle.laws.proofs.Complete.{length-back}
 use Rattle.laws.proofs.Faults.{handed, field-fault}
 use Rattle.laws.proofs.Headers.{tagEnd, afterTag, header-is}
 use Rattle.laws.proofs.Numbers.{bytes-take}
+use Rattle.laws.proofs.Refused.{body-refused}
 use Rattle.laws.proofs.Rows.{row-sane}
-use Rattle.laws.proofs.Table.{and-left, and-right, mode-found, kind-found}
+use Rattle.laws.proofs.Table.{and-left, and-right, mode-found, kind-found, smallest-is}
 
 -- ---- bodies
 
@@ -53,6 +57,17 @@ module _ (rules : Rules) (f : List ℕ) (b : Bytes f) where
       let some : 1 ≤ length (drop p f) = simp length-drop (omega (arith, ltb-true p (length f) t)) in
       (0, rw (← en) (left some), omega arith)
 
+  -- the rest of a frame was read to its end
+  field-last : (x : Field) (p q : ℕ) (v : Slot x) → read rules x f p ≡ got v q → LastField x (drop q f)
+  field-last (one (unsigned w)) p q v e = tt
+  field-last (one (signed w)) p q v e = tt
+  field-last (one (oneOf bs)) p q v e = tt
+  field-last (one text) p q v e = tt
+  field-last (one value) p q v e = tt
+  field-last (one rest) p q v e = let end : length f ≡ q = cc in rw (← end) (drop-length f)
+  field-last (counted k i) p q v e = tt
+  field-last (ended i) p q v e = tt
+
   -- the first field was read, so the fault is in those after it
   after-first : {X : Type 0} (x : Field) (xs : List Field) (make : Each Slot (x ∷ xs) → X) (v : Slot x) (r : Read (Each Slot xs)) → andThen (andThen {Y = Each Slot (x ∷ xs)} r (λ ss e. got (record { 0 = v; 1 = ss }) e)) (λ ss q. closed f q (make ss)) ≡ andThen r (λ ss q. closed f q (make (record { 0 = v; 1 = ss })))
   after-first x xs make v (got ss q) = refl
@@ -67,7 +82,7 @@ module _ (rules : Rules) (f : List ℕ) (b : Bytes f) where
       let w = field-was rules f b x t p q v l r in
       let h = ih q v (w .within) (sym (after-first x xs make v (readEach (read rules) xs f q)) ∙ e) in
       let n = length (bytes x (w .content)) in
-      let before : FieldBefore rules x (drop p f) (drop q f) n = record { content = w .content; inRange = w .inRange; writable = w .writable; split = w .split; place = refl } in
+      let before : FieldBefore rules x (drop p f) (drop q f) n = record { content = w .content; inRange = w .inRange; writable = w .writable; split = w .split; last = field-last x p q v r; place = refl } in
       (n + h .0, later before (h .1), omega (arith, w .next, h .2))
 
   fields-fault : {X : Type 0} (xs : List Field) (make : Each Slot xs → X) (p number place : ℕ) → T (every saneField xs) → p ≤ length f → toEnd xs make p ≡ bad number place → BodyRefused xs p number place
@@ -142,11 +157,8 @@ module _ (m : Mode) (known : IsIn m modes) (s : List ℕ) (number place : ℕ) w
   header-fault bare (some k) h l e = let z : _≡_ {A = ℕ} 0 1 = cc in absurd (omega arith)
 
 module _ (rules : Rules) (s : List ℕ) (b : Bytes s) (number place : ℕ) where
-  Fault : Type 0
-  Fault = UnknownMode rules number place ⊎ (BadHeader rules s number place ⊎ Faulty rules s number place)
-
-  mode-fault : (o : Option Mode) → modeOf rules ≡ o → headerBy o s ≡ refuse number place → Fault
-  unfolding headerBy Fault
+  mode-fault : (o : Option Mode) → modeOf rules ≡ o → headerBy o s ≡ refuse number place → FaultOf rules s number place
+  unfolding headerBy
   mode-fault none h e =
       let en : modeUnknown ≡ number = cc in
       let ep : 0 ≡ place = cc in
@@ -188,8 +200,8 @@ module _ (rules : Rules) (s : List ℕ) (b : Bytes s) (number place : ℕ) where
       let ep : y ≡ place = cc in
       faulty k start end h (x ∙ rw (en, ep) refl)
 
-  header-by : (h : Header) → headerOf rules s ≡ h → decodeBy rules s h ≡ D.Refused number place → Fault
-  unfolding decodeBy headerOf Fault
+  header-by : (h : Header) → headerOf rules s ≡ h → decodeBy rules s h ≡ D.Refused number place → FaultOf rules s number place
+  unfolding decodeBy headerOf
   header-by more h e = let z : _≡_ {A = ℕ} 0 1 = cc in absurd (omega arith)
   header-by (refuse c y) h e =
       let en : c ≡ number = cc in
@@ -197,6 +209,94 @@ module _ (rules : Rules) (s : List ℕ) (b : Bytes s) (number place : ℕ) where
       mode-fault (modeOf rules) refl (h ∙ rw (en, ep) refl)
   header-by (framed k start end) h e = inr (inr (body-by k start end (framed-is rules s k start end h) (readBody rules k (k .message) (take end s) start) refl e))
 
+-- ---- the other direction: where a fault stands, decoding refuses with its number at its place
+
+length-refused : (k : Kind) (p start : ℕ) (s : List ℕ) (number : ℕ) → LengthFault k p s number → lengthBy k p start s (signedOf 4 (numberAt 4 s p)) ≡ refuse number p
+unfolding lengthBy
+length-refused k p start s number (inl (e, inl h)) = rw (h .1, e) refl
+length-refused k p start s number (inl (e, inr h)) = rw (h .1, lt-ltb _ _ (h .2), e) refl
+length-refused k p start s number (inr (e, h)) = rw (h .1, le-ltb _ _ (h .2), lt-ltb _ _ (h .3), e) refl
+
+module _ (m : Mode) (known : IsIn m modes) (s : List ℕ) where
+  -- a tag of no kind tells none
+  tells-none : (tag : ℕ) → Unknown (m .kinds) tag → kindIn m tag ≡ none
+  tells-none tag u = by (kindIn m tag) refl
+    where
+      by : (o : Option Kind) → kindIn m tag ≡ o → o ≡ none
+      by none e = refl
+      by (some k) e = let h = kind-found m known tag k .0 e in absurd (u k (h .0) (h .1))
+
+  header-refused : (e : Envelope) (number place : ℕ) → HeaderFault e (m .kinds) s number place → headerIn e (kindIn m (tagAt e s)) s ≡ refuse number place
+  unfolding HeaderFault typedBy untypedBy bareBy
+  header-refused typed number place (inl h) = rw (header-is, le-ltb (length s) 1 (h .2), tells-none _ (h .3), h .0, h .1) refl
+  header-refused typed number place (inr h) =
+      let k = h .2 .0 in
+      let one : 1 ≤ length s = omega (arith, h .1) in
+      rw (header-is, le-ltb (length s) 1 one, kind-found m known _ k .1 (h .2 .1), le-ltb (length s) 5 (h .1), length-refused k 1 5 s number (h .2 .2), h .0) refl
+  header-refused untyped number place (inl h) = rw (header-is, le-ltb (length s) 8 (h .2), tells-none _ (h .3), h .0, h .1) refl
+  header-refused untyped number place (inr h) =
+      let k = h .2 .0 in
+      rw (header-is, le-ltb (length s) 8 (h .1), kind-found m known _ k .1 (h .2 .1), length-refused k 0 8 s number (h .2 .2), h .0) refl
+  header-refused bare number place h = rw (header-is, le-ltb (length s) 1 (h .2), tells-none _ (h .3), h .0, h .1) refl
+
+  -- a frame that is there
+  header-framed : (e : Envelope) → m .envelope ≡ e → (k : Kind) (end : ℕ) → FrameEnds e (m .kinds) k s end → end ≤ length s → headerIn e (kindIn m (tagAt e s)) s ≡ framed k (bodyStart e) end
+  unfolding typedBy untypedBy bareBy
+  header-framed typed q k end (t, (n, word, small, most, ends)) l =
+      let least : k .smallest ≡ lengthOf typed _ = rw q at (smallest-is m known k (t .0)) in
+      let five : 5 ≤ length s = omega (arith, least) in
+      let one : 1 ≤ length s = omega arith in
+      rw (header-is, le-ltb (length s) 1 one, kind-found m known _ k .1 t, le-ltb (length s) 5 five, word, length-back k 1 5 n s small most (omega arith), ends) refl
+  header-framed untyped q k end (t, (n, word, small, most, ends)) l =
+      let least : k .smallest ≡ lengthOf untyped _ = rw q at (smallest-is m known k (t .0)) in
+      let eight : 8 ≤ length s = omega (arith, least) in
+      rw (header-is, le-ltb (length s) 8 eight, kind-found m known _ k .1 t, word, length-back k 0 8 n s small most (omega arith), ends) refl
+  header-framed bare q k end (t, ends) l = rw (header-is, le-ltb (length s) 1 (omega (arith, ends)), kind-found m known _ k .1 t, ends) refl
+
+module _ (rules : Rules) (s : List ℕ) (number place : ℕ) where
+  no-mode : UnknownMode rules number place → headerOf rules s ≡ refuse number place
+  unfolding headerOf headerBy
+  no-mode (en, ep, u) = by (modeOf rules) refl
+    where
+      by : (o : Option Mode) → modeOf rules ≡ o → headerBy o s ≡ refuse number place
+      by none e = rw (en, ep) refl
+      by (some m) e = let f = mode-found rules m .0 e in absurd (u m (f .0) (f .1))
+
+  bad-header : BadHeader rules s number place → headerOf rules s ≡ refuse number place
+  unfolding headerOf headerBy
+  bad-header h = rw (mode-found rules (h .mode) .1 (h .known, h .is)) (header-refused (h .mode) (h .known) s (h .mode .envelope) number place (h .fault))
+
+  is-kind : (e : Envelope) (kinds : List Kind) (k : Kind) (end : ℕ) → FrameEnds e kinds k s end → IsIn k kinds
+  is-kind typed kinds k end h = h .0 .0
+  is-kind untyped kinds k end h = h .0 .0
+  is-kind bare kinds k end h = h .0 .0
+
+  bad-body : Faulty rules s number place → decodeOf rules s ≡ D.Refused number place
+  unfolding decodeOf headerOf headerBy decodeBy decodedBy
+  bad-body h =
+      let e = h .mode .envelope in
+      let k = h .kind in
+      let f = take (h .end) s in
+      let header : headerOf rules s ≡ framed k (bodyStart e) (h .end) = rw (mode-found rules (h .mode) .1 (h .known, h .is)) (header-framed (h .mode) (h .known) s e refl k (h .end) (h .ends) (h .whole)) in
+      let was = framed-is rules s k (bodyStart e) (h .end) header in
+      let start : bodyStart e ≤ length f = rw (length-take-le (h .end) s (h .whole)) (omega (arith, was .starts, framed-ends rules s k (bodyStart e) (h .end) was .0)) in
+      let sane = row-sane (h .mode) (h .known) k (is-kind e (h .mode .kinds) k (h .end) (h .ends)) in
+      let r = body-refused f rules (k .body) (k .message) (sane .fields) (bodyStart e) number (h .at) _ start refl (h .fault) in
+      rw (header, r, h .placed) refl
+
+  fault-refused : FaultOf rules s number place → decodeOf rules s ≡ D.Refused number place
+  unfolding decodeOf decodeBy
+  fault-refused (inl h) = rw (no-mode h) refl
+  fault-refused (inr (inl h)) = rw (bad-header h) refl
+  fault-refused (inr (inr h)) = bad-body h
+
 pub refusals : Refusals theDecoder
-unfolding decodeOf Fault
-refusals rules s number place b e = header-by rules s b number place (headerOf rules s) refl e
+unfolding decodeOf ofDecoded
+refusals rules s number place b = (λ e. header-by rules s b number place (headerOf rules s) refl (refused e), λ h. ap ofDecoded (fault-refused rules s number place h))
+
+-- a buffer has one fault at most: each is the decoder's one refusal
+pub one-fault : OneFault
+one-fault rules s number place number′ place′ h i =
+    let d = fault-refused rules s number place h in
+    let e = fault-refused rules s number′ place′ i in
+    (cc, cc)

@@ -14,43 +14,49 @@ use Rattle.protocol.specs.declared.Element.{Element}
 use Rattle.protocol.specs.declared.Message.the-variants as M
 use Rattle.protocol.specs.declared.Message.{Message}
 use Rattle.protocol.specs.declared.Rules.{Rules}
-use Rattle.protocol.specs.Answers.{ofDecoded}
+use Rattle.protocol.specs.Answers.{success, needsMore, refusal, ofDecoded, ofEncoded}
 use Rattle.protocol.specs.Bytes.{Bytes, be}
 use Rattle.protocol.specs.Each.{bytesOfEach, ableEach, HoldsEach}
 use Rattle.protocol.specs.Elements.{listIn, elementBy, elementAt, elementIn, elementOf}
 use Rattle.protocol.specs.Encode.{encodedBy, writtenBy}
-use Rattle.protocol.specs.Kinds.{backend, parseComplete, valueElement}
-use Rattle.protocol.specs.WellFormed.{bodyStart, bodyBytes, header, frame}
+use Rattle.protocol.specs.Kinds.{typed, backend, parseComplete, valueElement}
+use Rattle.protocol.specs.WellFormed.{bodyStart, bodyBytes, header, frame, recordOf}
 use Rattle.protocol.proofs.Open.{the-decoding}
 use Rattle.laws.specs.Items.{Found, found, Answers}
-use Rattle.laws.specs.Statements.{Decoder, ElementCall, theDecoder, theElementCall, Sound, NeedMore}
+use Rattle.laws.specs.Statements.{Decoder, ElementCall, theDecoder, theElementCall, Sound, NeedMore, Refusals}
 use Rattle.laws.specs.ElementStatements.{Elements}
 use Rattle.laws.specs.Rejected.{Rejected}
 use Rattle.laws.specs.Shortcuts as S
+use Rattle.laws.proofs.Answered.{recorded, waiting, refused, element-is, element-refused}
 use Rattle.laws.proofs.Complete.{complete}
 use Rattle.laws.proofs.Elements.{elements}
 use Rattle.laws.proofs.NeedMore.{needMore}
+use Rattle.laws.proofs.Refusals.{refusals}
 use Rattle.laws.proofs.Sound.{sound}
 
 -- ---- a statement leaves a decoder, or an element call, the one answer
 
 -- what a sound decoder takes, the decoder takes from those bytes alone
-sound-takes : (decode : Decoder) → Sound decode → (rules : Rules) (s : List ℕ) (r : Message) (n : ℕ) → Bytes s → decode rules s ≡ D.Record r n → theDecoder rules (take n s) ≡ D.Record r n
+sound-takes : (decode : Decoder) → Sound decode → (rules : Rules) (s : List ℕ) (r : Message) (n : ℕ) → Bytes s → ofDecoded (decode rules s) ≡ success r n → theDecoder rules (take n s) ≡ D.Record r n
 sound-takes decode h rules s r n b e =
     let a = h rules s r n b e in
     let f = frame (a .mode .envelope) (a .kind) (a .content) in
-    rw (append-nil f, ← a .size, ← a .is, ← a .bytes) at (complete rules (a .mode) (a .kind) (a .content) [] (a .wellFormed))
+    rw (append-nil f, ← a .size, ← a .is, ← a .bytes) at (recorded (complete rules (a .mode) (a .kind) (a .content) [] (a .wellFormed)))
 
 -- one that waits exactly as it should waits where the decoder does
-waits-too : (decode : Decoder) → NeedMore decode → (rules : Rules) (s : List ℕ) → ofDecoded (decode rules s) .needMore ≡ true → ofDecoded (theDecoder rules s) .needMore ≡ true
-waits-too decode h rules s e = needMore rules s .1 (h rules s .0 e)
+waits-too : (decode : Decoder) → NeedMore decode → (rules : Rules) (s : List ℕ) → ofDecoded (decode rules s) ≡ needsMore → theDecoder rules s ≡ D.NeedMore
+waits-too decode h rules s e = waiting (needMore rules s .1 (h rules s .0 e))
+
+-- one that refuses exactly as it should refuses as the decoder does
+refuses-too : (decode : Decoder) → Refusals decode → (rules : Rules) (s : List ℕ) (number place : ℕ) → Bytes s → ofDecoded (decode rules s) ≡ refusal number place → theDecoder rules s ≡ D.Refused number place
+refuses-too decode h rules s number place b e = refused (refusals rules s number place b .1 (h rules s number place b .0 e))
 
 -- two answers of one item are one
 one-answer : (s : List ℕ) (x : Option Found) (a b : Element) → Answers s x a → Answers s x b → a ≡ b
-one-answer s none a b p q = p ∙ sym q
-one-answer s (some x) a b p q = p .is ∙ sym (q .is)
+one-answer s none a b p q = element-refused p ∙ sym (element-refused q)
+one-answer s (some x) a b p q = element-is (p .is) ∙ sym (element-is (q .is))
 
-same-element : (call : ElementCall) → Elements call → (rules : Rules) (s : List ℕ) (r : Message) (n : ℕ) → Bytes s → theDecoder rules s ≡ D.Record r n → (l i : ℕ) → call rules (take n s) l i ≡ theElementCall rules (take n s) l i
+same-element : (call : ElementCall) → Elements call → (rules : Rules) (s : List ℕ) (r : Message) (n : ℕ) → Bytes s → ofDecoded (theDecoder rules s) ≡ success r n → (l i : ℕ) → call rules (take n s) l i ≡ theElementCall rules (take n s) l i
 same-element call h rules s r n b e l i =
     let a = sound rules s r n b e in
     let f = frame (a .mode .envelope) (a .kind) (a .content) in
@@ -81,6 +87,10 @@ two-values = 0x44 ∷ 0 ∷ 0 ∷ 0 ∷ 0x10 ∷ 0 ∷ 2 ∷ 0 ∷ 0 ∷ 0 ∷ 2
 abbrev no-zero-byte : List ℕ
 no-zero-byte = 0x43 ∷ 0 ∷ 0 ∷ 0 ∷ 6 ∷ 0x4F ∷ 0x4B ∷ 0 ∷ []
 
+-- a DataRow that counts two values and has room for one, which is refused itself
+abbrev too-many : List ℕ
+too-many = 0x44 ∷ 0 ∷ 0 ∷ 0 ∷ 0x0C ∷ 0 ∷ 2 ∷ 0xFF ∷ 0xFF ∷ 0xFF ∷ 0xFE ∷ 0xFF ∷ 0xFF ∷ []
+
 -- a length that is one above the limit
 abbrev hopeless : List ℕ
 hopeless = 0x45 ∷ 0 ∷ 0 ∷ 0x20 ∷ 1 ∷ []
@@ -103,18 +113,19 @@ no : {A : Type 0} → _≡_ {A = ℕ} 0 1 → A
 no z = absurd (omega arith)
 
 pub rejected : Rejected
-unfolding the-decoding areBytes header be frame bodyBytes bytesOfEach ableEach HoldsEach ofDecoded encodedBy writtenBy listIn elementBy elementAt elementIn elementOf valueElement
+unfolding the-decoding areBytes header be frame bodyBytes bytesOfEach ableEach HoldsEach ofDecoded ofEncoded encodedBy writtenBy listIn elementBy elementAt elementIn elementOf valueElement
 rejected = record {
-  refusesEverything = λ h. no (let e = h backend parseComplete tt five-bytes [] 5 (inr (inl refl)) (inl refl) tt refl (mode 1) backend (inr (inl refl)) refl (inl refl) .decoded in cc);
+  refusesEverything = λ h. no (let e = h backend parseComplete tt five-bytes [] 5 (inr (inl refl)) (inl refl) tt refl (mode 1) backend (inr (inl refl)) refl (inl refl) .decoded in let r : D.Refused 2 0 ≡ D.Record (recordOf typed parseComplete tt) 5 = recorded e in cc);
   fixedRecord = λ h. let e = h (mode 0) [] M.Sync 5 (bytes-by [] refl) refl .within in omega arith;
   writesNothing = λ h. no (let e = h backend parseComplete (some tt) five-bytes .writes 5 tt refl refl in cc);
   firstForEachNumber = λ h. no (let e = same-element S.firstForEachNumber h (mode 1) two-values _ 17 (bytes-by two-values refl) refl 0 1 in cc);
   inventedCount = λ h. no (let e = sound-takes S.inventedCount h (mode 1) idle _ 5 (bytes-by idle refl) refl in cc);
   boundedByTheBuffer = λ h. no (let e = sound-takes S.boundedByTheBuffer h (mode 1) no-zero-byte _ 7 (bytes-by no-zero-byte refl) refl in cc);
   waitsForTheBody = λ h. no (let e = waits-too S.waitsForTheBody h (mode 0) hopeless refl in cc);
-  headerFirst = λ h. no (let e = h backend parseComplete (some tt) (0 ∷ []) .refused 9 0 refl in cc);
+  headerFirst = λ h. no (let e = h backend parseComplete (some tt) (0 ∷ []) .refused (inr (9, 0, refl)) in cc);
+  countAtItsWord = λ h. no (let e : D.Refused 5 5 ≡ D.Refused 7 7 = refuses-too S.countAtItsWord h (mode 1) too-many 7 7 (bytes-by too-many refl) refl in cc);
   alwaysWaits = λ h. no (let e = waits-too S.alwaysWaits h (mode 0) hopeless refl in cc);
   ignoresTheMode = λ h. no (let e = sound-takes S.ignoresTheMode h (mode 1) a-sync M.Sync 5 (bytes-by a-sync refl) refl in cc);
   refusesToWrite = λ h. h backend parseComplete (some tt) five-bytes .ten .0 refl (tt, refl, refl);
-  cutsTheOutput = λ h. no (let e = h backend parseComplete (some tt) (0 ∷ 0 ∷ []) .refused 9 0 refl in cc);
+  cutsTheOutput = λ h. no (let e = h backend parseComplete (some tt) (0 ∷ 0 ∷ []) .refused (inr (9, 0, refl)) in cc);
 }

@@ -18,6 +18,7 @@ use Rattle.protocol.specs.declared.Message.{Message}
 use Rattle.protocol.specs.declared.Rules.{Rules}
 use Rattle.protocol.specs.declared.data.DataRow.{DataRow}
 use Rattle.protocol.specs.declared.Span.{Span}
+use Rattle.protocol.specs.Answers.{success, ofElement}
 use Rattle.protocol.specs.Bytes.{signedOf}
 use Rattle.protocol.specs.Decode.{Header, more, refuse, framed, tagAt, headerOf, bodyBy, closed, decodedBy, decodeBy, decodeOf}
 use Rattle.protocol.specs.Elements.{readItemAt, elementBy, elementAt}
@@ -33,10 +34,11 @@ use Rattle.protocol.proofs.Open.{the-table}
 use Rattle.element.specs.Lists.{listsOf}
 use Rattle.element.proofs.Calls.{answered-as}
 use Rattle.reader.specs.declared.row.Row.the-variants as R
-use Rattle.reader.specs.Row.{Place, lengthWord, startOf, lengthOf, entryOf, placesFrom, rowIn, rowFits, rowBy, over, startsOf, lengthsOf}
+use Rattle.reader.specs.Row.{Place, lengthWord, startOf, lengthOf, entryOf, placesFrom, rowIn, rowFits, rowBy, over, startsOf, lengthsOf, ReadsRow}
 use Rattle.laws.specs.Arguments.{nth}
-use Rattle.laws.specs.ReaderStatements.{elementAs, RowEntries}
+use Rattle.laws.specs.ReaderStatements.{elementAs, RowIs, RowEntries}
 use Rattle.laws.specs.Statements.{theElementCall}
+use Rattle.laws.proofs.Answered.{row-is}
 
 -- ---- lists
 
@@ -282,9 +284,14 @@ element-is : (f : List ℕ) (l : ListSlot) (i : ℕ) → i < l .count → (w : P
 unfolding elementAt elementBy
 element-is f l i h w = rw (lt-ltb _ _ h, w .item) (told (w .value) (w .below))
 
-pub row-entries : RowEntries theElementCall
+entry-says : (start : ℕ) (length : ℤ) → ofElement (elementAs start length) ≡ success (elementAs start length) 0
+unfolding ofElement
+entry-says start (pos n) = refl
+entry-says start (negsuc n) = refl
+
+entries : (s starts₀ starts₁ : List ℕ) (lengths₀ lengths₁ : List ℤ) (l : ListSlot) (n : ℕ) → ReadsRow s starts₀ lengths₀ (R.Is l n) starts₁ lengths₁ → RowIs theElementCall s starts₀ starts₁ lengths₀ lengths₁ (l .count)
 unfolding listsOf
-row-entries s starts₀ starts₁ lengths₀ lengths₁ l n e =
+entries s starts₀ starts₁ lengths₀ lengths₁ l n e =
     let d = decoded-row s (decodeOf fromBackend s) (length starts₀) (length lengths₀) l n refl (e .answer) in
     let f = take n s in
     let ok = rw (d .list) at (values-passed s (d .row) n (d .is) .1) in
@@ -297,8 +304,11 @@ row-entries s starts₀ starts₁ lengths₀ lengths₁ l n e =
             lengthOf (w .value),
             rw (e .starts) (nth-front _ _ i _ (nth-map (λ (x : Place). x .start) _ i _ (w .place))),
             rw (e .lengths) (nth-front _ _ i _ (nth-map (λ (x : Place). x .length) _ i _ (w .place))),
-            sym (elements i) ∙ rw (d .list) (element-is f l i h w),
+            ap ofElement (sym (elements i) ∙ rw (d .list) (element-is f l i h w)) ∙ entry-says (startOf (w .value)) (lengthOf (w .value)),
           );
       starts = λ i h. rw (e .starts) (nth-later (startsOf (placesFrom (l .count) f (l .start))) starts₀ i (simp length-map (omega (arith, count))));
       lengths = λ i h. rw (e .lengths) (nth-later (lengthsOf (placesFrom (l .count) f (l .start))) lengths₀ i (simp length-map (omega (arith, count))));
     }
+
+pub row-entries : RowEntries theElementCall
+row-entries s starts₀ starts₁ lengths₀ lengths₁ r l n e h = entries s starts₀ starts₁ lengths₀ lengths₁ l n (rw (row-is h) at e)

@@ -16,6 +16,7 @@ use Rattle.protocol.specs.Reading.{Read, got, bad}
 use Rattle.protocol.specs.WellFormed.{bodyBytes, lengthOf, header, bodyStart, frame, recordOf}
 use Rattle.protocol.proofs.Framed.{Framing, Framed, framed-is, framed-ends}
 use Rattle.laws.specs.Statements.{Accepted, Sound, theDecoder}
+use Rattle.laws.proofs.Answered.{recorded}
 use Rattle.laws.proofs.Atoms.{byte-be}
 use Rattle.laws.proofs.Bodies.{body-was}
 use Rattle.laws.proofs.Numbers.{bytes-take, be-at, number-at-below, bits-signed}
@@ -99,4 +100,4 @@ module _ (rules : Rules) (s : List ℕ) (b : Bytes s) where
 
 pub sound : Sound theDecoder
 unfolding decodeOf
-sound rules s r n b e = header-by rules s b (headerOf rules s) refl r n e
+sound rules s r n b e = header-by rules s b (headerOf rules s) refl r n (recorded e)

@@ -90,4 +90,4 @@ elementFields (E.Field d) =
     ∷ []
 elementFields (E.ErrorField c s) = "code" ∶ number c ∷ "string" ∶ part s ∷ []
 elementFields E.NeedMore = []
-elementFields (E.Refused number place) = []
+elementFields (E.Refused k p) = []

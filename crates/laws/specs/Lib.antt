@@ -1,3 +1,4 @@
+pub mod FieldNames
 pub mod Document
 pub mod Waiting
 pub mod Places
@@ -8,8 +9,10 @@ pub mod Items
 pub mod ElementStatements
 pub mod Arguments
 pub mod EncodeStatements
+pub mod ByName
 pub mod ReaderStatements
-pub mod Encoders
+pub mod ListingStatements
+pub mod Lent
 pub mod Shortcuts
 pub mod Rejected
 pub mod Tight

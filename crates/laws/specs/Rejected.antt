@@ -3,7 +3,7 @@ use Rattle.protocol.specs.Encode.{encodedBy}
 use Rattle.laws.specs.ElementStatements.{Elements}
 use Rattle.laws.specs.EncodeStatements.{encoderWith, theEncoder, Exactly, Unchanged, RoundTrip}
 use Rattle.laws.specs.Shortcuts as S
-use Rattle.laws.specs.Statements.{Sound, NeedMore, theElementCall}
+use Rattle.laws.specs.Statements.{Sound, NeedMore, Refusals, theElementCall}
 
 pub record Rejected : Type 0 where
   -- the five useless builds: encoded messages decode (demand 3); exactly the well-formed frames, their fields and byte count (demand 2)
@@ -17,7 +17,8 @@ pub record Rejected : Type 0 where
   pub boundedByTheBuffer : Sound S.boundedByTheBuffer → ⊥
   pub waitsForTheBody : NeedMore S.waitsForTheBody → ⊥
   pub headerFirst : Unchanged (encoderWith encodedBy S.headerFirst) → ⊥
-  -- others
+  -- others. A decoder that takes a count at its word names a fault that is not the first (demand 2)
+  pub countAtItsWord : Refusals S.countAtItsWord → ⊥
   pub alwaysWaits : NeedMore S.alwaysWaits → ⊥
   pub ignoresTheMode : Sound S.ignoresTheMode → ⊥
   pub refusesToWrite : Exactly (encoderWith S.refusesToWrite S.writesNothing) → ⊥

@@ -14,10 +14,12 @@ use Rattle.protocol.specs.declared.Encoded.{Encoded}
 use Rattle.protocol.specs.declared.Message.the-variants as M
 use Rattle.protocol.specs.declared.Rules.{Rules}
 use Rattle.protocol.specs.Bytes.{numberAt}
-use Rattle.protocol.specs.Decode.{Header, more, refuse, framed, headerOf, bodyOf, decodedBy, decodeOf}
+use Rattle.protocol.specs.Decode.{Header, more, refuse, framed, headerOf, closed, bodyBy, bodyOf, decodedBy, decodeOf}
 use Rattle.protocol.specs.Elements.{elementOf}
 use Rattle.protocol.specs.Encode.{writtenBy}
+use Rattle.protocol.specs.Fields.{Field, one, counted, ended, Slot}
 use Rattle.protocol.specs.Kinds.{Kind, Mode}
+use Rattle.protocol.specs.Reading.{Read, got, andThen, readEach, readCount, passItems, read}
 use Rattle.protocol.specs.Refusals.{typeUnknown, lengthAboveLimit, outputTooShort, notRepresentable}
 use Rattle.protocol.specs.WellFormed.{Contents, frame}
 
@@ -64,6 +66,22 @@ awaited s (D.Refused number place) =
 
 abbrev pub waitsForTheBody : Rules → List ℕ → Decoded
 waitsForTheBody rules s = awaited s (decodeOf rules s)
+
+-- a count taken at its word: no test whether so many of the smallest elements fit into what is left
+abbrev atItsWord : Rules → (x : Field) → List ℕ → ℕ → Read (Slot x)
+atItsWord rules (one a) f p = read rules (one a) f p
+atItsWord rules (counted k i) f p = andThen (readCount k 0 f p) (λ l q. andThen (passItems rules i (l .count) f q) (λ _ e. got l e))
+atItsWord rules (ended i) f p = read rules (ended i) f p
+
+abbrev wordBy : Rules → List ℕ → Header → Decoded
+wordBy rules s more = D.NeedMore
+wordBy rules s (refuse number place) = D.Refused number place
+wordBy rules s (framed k start end) =
+    let f = take end s in
+    decodedBy (bodyBy (andThen (readEach (atItsWord rules) (k .body) f start) (λ v q. closed f q (k .message v)))) end
+
+abbrev pub countAtItsWord : Rules → List ℕ → Decoded
+countAtItsWord rules s = wordBy rules s (headerOf rules s)
 
 -- ---- an element call
 

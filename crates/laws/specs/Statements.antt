@@ -122,7 +122,7 @@ Refusals decode =
 -- 8. The first fault decides: a buffer has one fault at most.
 abbrev pub OneFault : Type 0
 OneFault =
-    (rules : Rules) (s : List ℕ) (number place number′ place′ : ℕ) → Bytes s → FaultOf rules s number place → FaultOf rules s number′ place′
+    (rules : Rules) (s : List ℕ) (number place number′ place′ : ℕ) → FaultOf rules s number place → FaultOf rules s number′ place′
     → (number ≡ number′) × (place ≡ place′)
 
 -- 9. Numbered. A refusal has a number from 1 to 8; and a refusal or need-more consumes 0 and gives no record.
