@@ -1,6 +1,6 @@
 -- An answer that is set out loses nothing: it tells its case again. So what is known of the setting out is known of the answer.
 use Prim.Native.Nat.{ℕ}
-use mathlib.Core.Bool.{cond}
+use mathlib.Core.Bool.{true, cond}
 use mathlib.Core.Logic.{inl, inr}
 use mathlib.Core.Option.{Option, some, none}
 use mathlib.Core.Path.{_≡_, refl, ap, sym, _∙_}
@@ -73,6 +73,25 @@ pub element-waits : {e : Element} → ofElement e ≡ needsMore → e ≡ E.Need
 unfolding back
 element-waits {e} h = sym (element-back e) ∙ ap elementFrom h
 
+-- one that needs more, and no other
+pub element-needs : (e : Element) → ofElement e .needMore ≡ true → ofElement e ≡ needsMore
+unfolding ofElement back
+element-needs e h =
+    let q : E.NeedMore ≡ e = rw h at (element-back e) in
+    rw (← q) refl
+
+-- it consumes nothing
+pub element-consumes : (e : Element) → ofElement e .consumed ≡ 0
+unfolding ofElement
+element-consumes (E.Oid n) = refl
+element-consumes (E.Format z) = refl
+element-consumes E.Null = refl
+element-consumes (E.Value s) = refl
+element-consumes (E.Field d) = refl
+element-consumes (E.ErrorField c s) = refl
+element-consumes E.NeedMore = refl
+element-consumes (E.Refused number place) = refl
+
 -- an encoder never asks for more
 abbrev encodedFrom : Answer (Unit {0}) → Encoded
 encodedFrom = back (λ _ n. N.Done n) (N.Done 0) N.Refused
@@ -104,6 +123,9 @@ unfolding back valueBy
 row-is {r} e = sym (row-back r) ∙ ap rowFrom e
 
 -- ---- refused or told need-more is no success
+
+pub refusal-is : {X : Type 0} {a b c d : ℕ} → refusal {X = X} a b ≡ refusal c d → (a ≡ c) × (b ≡ d)
+refusal-is {X} e = (ap (λ (a : Answer X). a .number) e, ap (λ (a : Answer X). a .place) e)
 
 pub not-success : {X : Type 0} {x : X} {n : ℕ} → Unsuccessful (success x n) → ⊥
 not-success {X} (inl e) = let v = ap (λ (a : Answer X). a .value) e in let z : _≡_ {A = ℕ} 0 1 = cc in omega arith

@@ -51,15 +51,16 @@ Comes k given R Named = ComesBack theEncoder theDecoder theElementCall k given R
 module _ (k : Kind) {R : Type 0} {Named : Back → R → Type 0} where
   comes-back : (given : Option (Contents k)) → ((c : Contents k) → given ≡ some c → AllInRange k c) → ((c : Contents k) (b : Back) → given ≡ some c → ContentBack k c b → (r : R) × Named b r) → Comes k given R Named
   unfolding recordOf
-  comes-back given range named = record { comes = λ m out t n i j e rules reads i2 is j2.
-      let given-is = exactly m k given out .done n .0 e .0 .0 in
-      let c = given-is .0 in
-      let q = given-is .1 in
-      let d = round-trip m k c out t n i j (range c q) (rw q at e) rules reads i2 is j2 in
-      let s = take n (theEncoder m k (some c) out .output) ++ t in
-      let b : Back = record { bytes = s; message = recordOf (reads .envelope) k c; element = theElementCall rules s } in
-      let x = named c b q (record { start = bodyStart (reads .envelope); message = refl; placed = d .placed; elements = d .elements }) in
-      rw q (b .message, x .0, d .decoded, x .1)
+  comes-back given range named = record {
+    comes = λ m out t n i j e rules reads i2 is j2.
+        let given-is = exactly m k given out .done n .0 e .0 .0 in
+        let c = given-is .0 in
+        let q = given-is .1 in
+        let d = round-trip m k c out t n i j (range c q) (rw q at e) rules reads i2 is j2 in
+        let s = take n (theEncoder m k (some c) out .output) ++ t in
+        let b : Back = record { bytes = s; message = recordOf (reads .envelope) k c; element = theElementCall rules s } in
+        let x = named c b q (record { start = bodyStart (reads .envelope); message = refl; placed = d .placed; elements = d .elements }) in
+        rw q (b .message, x .0, d .decoded, x .1);
   }
 
   -- arguments that are a content
@@ -133,20 +134,20 @@ module _ (b : Back) (l p : ℕ) (list : ListSlot) where
   rows-back fields run cs g many calls =
       list-back b l p list rowField cs many calls fields _ (row-fields fields run .many cs g)
       (λ i d e at.
-          let x = row-fields fields run .items cs g i d e in
-          let is = x .2 in
-          let w = at (x .0) (x .1) in
-          record {
-            field = _;
-            is = w .1 .is;
-            name = w .1 .placed .0 ∙ is .name;
-            «table_id» = is .«table_id»;
-            «column_id» = is .«column_id»;
-            «type_id» = is .«type_id»;
-            «type_size» = is .«type_size»;
-            «type_modifier» = is .«type_modifier»;
-            «format_code» = is .«format_code»;
-          })
+      let x = row-fields fields run .items cs g i d e in
+      let is = x .2 in
+      let w = at (x .0) (x .1) in
+      record {
+        field = _;
+        is = w .1 .is;
+        name = w .1 .placed .0 ∙ is .name;
+        «table_id» = is .«table_id»;
+        «column_id» = is .«column_id»;
+        «type_id» = is .«type_id»;
+        «type_size» = is .«type_size»;
+        «type_modifier» = is .«type_modifier»;
+        «format_code» = is .«format_code»;
+      })
 
 -- ---- the kinds
 
@@ -174,15 +175,17 @@ by-name = record {
       of-made K.bind (λ vs. (portal, (statement, (items codes, (vs, (items results, tt)))))) (valuesGiven lengths joined)
       (λ vs e. (p, (s, (in-range .formats codes f, (in-range .values lengths joined vs l j e, (in-range .formats results r, tt))))))
       (λ vs b e h.
-          let lists = h .placed .1 .1 in
-          (_, (
-            h .message,
-            h .placed .0,
-            h .placed .1 .0,
-            formats b 0 _ _ codes (lists .0 .1) (h .elements 0),
-            values-back b 1 _ _ lengths joined vs e (lists .1 .0 .1) (h .elements 1),
-            formats b 2 _ _ results (lists .1 .1 .0 .1) (h .elements 2),
-          )));
+      let lists = h .placed .1 .1 in (
+        _,
+        (
+          h .message,
+          h .placed .0,
+          h .placed .1 .0,
+          formats b 0 _ _ codes (lists .0 .1) (h .elements 0),
+          values-back b 1 _ _ lengths joined vs e (lists .1 .0 .1) (h .elements 1),
+          formats b 2 _ _ results (lists .1 .1 .0 .1) (h .elements 2),
+        ),
+      ));
   «bind_complete» = of-content K.bindComplete tt tt (λ b h. (tt, h .message));
   describe = λ target name t n. of-content K.describe (target, (name, tt)) (t, (n, tt)) (λ b h. (_, (h .message, refl, h .placed .1 .0)));
   execute = λ name rows n r. of-content K.execute (name, (rows, tt)) (n, (r, tt)) (λ b h. (_, (h .message, h .placed .0, refl)));

@@ -22,7 +22,7 @@ use Rattle.protocol.specs.Refusals.{lengthAboveLimit, outputTooShort, notRepres
 use Rattle.protocol.specs.WellFormed.{Contents, bodyBytes, header, lengthOf, frame, allAble, WellFormed}
 use Rattle.laws.specs.EncodeStatements.{theEncoder, Contracts, Representable, WithinLimit, HasRoom, EncodesExactly, Exactly, KeepsTheRest, Unchanged, Decodes, RoundTrip}
 use Rattle.laws.specs.Statements.{theDecoder, theElementCall}
-use Rattle.laws.proofs.Answered.{done, encoded-refused, encoded-unsuccessful}
+use Rattle.laws.proofs.Answered.{done as is-done, encoded-refused, encoded-unsuccessful}
 use Rattle.laws.proofs.Complete.{complete, header-long}
 use Rattle.laws.proofs.Elements.{elements}
 use Rattle.laws.proofs.Fields.{fields-placed}
@@ -34,10 +34,10 @@ abbrev judge : Bool → Bool → Bool → ℕ → Encoded
 judge able long short n = cond able (cond long (N.Refused lengthAboveLimit 0) (cond short (N.Refused outputTooShort 0) (N.Done n))) (N.Refused notRepresentable 0)
 
 -- a and b hold, or neither does
-yes : {A B : Type 0} → A → B → A ↔ B
+pub yes : {A B : Type 0} → A → B → A ↔ B
 yes a b = (λ _. b, λ _. a)
 
-no : {A B : Type 0} → (A → ⊥) → (B → ⊥) → A ↔ B
+pub no : {A B : Type 0} → (A → ⊥) → (B → ⊥) → A ↔ B
 no a b = (λ h. absurd (a h), λ h. absurd (b h))
 
 through : {A B C : Type 0} → A ↔ B → B ↔ C → A ↔ C
@@ -50,7 +50,7 @@ says-refused = (encoded-refused, λ e. rw e refl)
 
 says-done : {r : Encoded} {n : ℕ} → (ofEncoded r ≡ success tt n) ↔ (r ≡ N.Done n)
 unfolding ofEncoded
-says-done = (done, λ e. rw e refl)
+says-done = (is-done, λ e. rw e refl)
 
 le-exactly : (a b : ℕ) → (a ≤ b) ↔ (ltb b a ≡ false)
 le-exactly a b = (le-ltb _ _, ltb-false _ _)
@@ -63,6 +63,19 @@ undone a p n e = let z : _≡_ {A = ℕ} 0 1 = cc in omega arith
 
 done-not : (a p n : ℕ) → N.Done n ≡ N.Refused a p → ⊥
 done-not a p n e = undone a p n (sym e)
+
+-- it is one of four answers
+pub data Says : Encoded → Type 0 where
+  ten : Says (N.Refused notRepresentable 0)
+  four : Says (N.Refused lengthAboveLimit 0)
+  nine : Says (N.Refused outputTooShort 0)
+  done : (n : ℕ) → Says (N.Done n)
+
+judge-says : (able long short : Bool) (n : ℕ) → Says (judge able long short n)
+judge-says false long short n = ten
+judge-says true true short n = four
+judge-says true false true n = nine
+judge-says true false false n = done n
 
 record Judged (A B C : Type 0) (r : Encoded) (n : ℕ) : Type 0 where
   ten : (r ≡ N.Refused notRepresentable 0) ↔ (A → ⊥)
@@ -171,7 +184,7 @@ module _ (m : Mode) (k : Kind) where
         four = through says-refused (v .four);
         nine = through says-refused (v .nine);
         done = λ n. through says-done (through (v .done n) (λ h. (h .0, λ x e. let q : c ≡ x = cc in rw (← q) (h .1)), λ h. (h .0, h .1 c refl)));
-        writes = λ n x e d. let q : c ≡ x = cc in rw (← q) (written c out n (done d));
+        writes = λ n x e d. let q : c ≡ x = cc in rw (← q) (written c out n (is-done d));
       }
 
   keeps-by : (given : Option (Contents k)) (out : List ℕ) → KeepsTheRest theEncoder m k given out
@@ -179,8 +192,14 @@ module _ (m : Mode) (k : Kind) where
   keeps-by none out = record { refused = λ e. refl; later = λ n e. refl }
   keeps-by (some c) out = record {
     refused = λ e. let r = encoded-unsuccessful _ e in ap (λ (r : Encoded). writtenBy m k (some c) r out) (r .2);
-    later = λ n e. let w = wrote c out n (done e) in rw (w .1, w .0) (drop-append-seam (frame (m .envelope) k c) (drop (size c) out));
+    later = λ n e. let w = wrote c out n (is-done e) in rw (w .1, w .0) (drop-append-seam (frame (m .envelope) k c) (drop (size c) out));
   }
+
+  -- one of the four answers
+  pub encoder-says : (given : Option (Contents k)) (out : List ℕ) → Says (theEncoder m k given out .answer)
+  unfolding encodedBy
+  encoder-says none out = judge-says false true true 0
+  encoder-says (some c) out = judge-says (canBe c) (ltb (k .limit) (word c)) (ltb (length out) (size c)) (size c)
 
 pub exactly : Exactly theEncoder
 exactly = exactly-by
@@ -253,7 +272,7 @@ decodes rules m k c t w =
 pub round-trip : RoundTrip theEncoder theDecoder theElementCall
 round-trip m k c out t n i j inRange e rules reads i2 is j2 =
     let same = same-envelope m reads k i j i2 j2 in
-    let ok = verdict m k c out .done n .0 (done e) in
+    let ok = verdict m k c out .done n .0 (is-done e) in
     let able = given-is m k (λ x. canBe m k x ≡ true) c .0 (ok .0 .0) in
     let most = given-is m k (λ x. word m k x ≤ k .limit) c .0 (ok .0 .1) in
     let w : WellFormed rules reads k c = record {
@@ -264,7 +283,7 @@ round-trip m k c out t n i j inRange e rules reads i2 is j2 =
       writable = able-any rules (record { mode = m .mode }) k c ∙ able;
       withinLimit = rw (← same) most;
     } in
-    rw (written m k c out n (done e), ok .1, same) (decodes rules reads k c t w)
+    rw (written m k c out n (is-done e), ok .1, same) (decodes rules reads k c t w)
 
 -- ---- what the contracts say
 

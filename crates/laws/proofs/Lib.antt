@@ -26,4 +26,9 @@ pub mod InOrder
 pub mod RowEntries
 pub mod ByName
 pub mod Tight
+pub mod Numbered
+pub mod RowAnswers
+pub mod Lent
+pub mod Steps
+pub mod Only
 pub mod Rejected

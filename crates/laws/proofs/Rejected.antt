@@ -27,10 +27,11 @@ use Rattle.laws.specs.Statements.{Decoder, ElementCall, theDecoder, theE
 use Rattle.laws.specs.ElementStatements.{Elements}
 use Rattle.laws.specs.Rejected.{Rejected}
 use Rattle.laws.specs.Shortcuts as S
-use Rattle.laws.proofs.Answered.{recorded, waiting, refused, element-is, element-refused}
+use Rattle.laws.proofs.Answered.{recorded, waiting, refused}
 use Rattle.laws.proofs.Complete.{complete}
 use Rattle.laws.proofs.Elements.{elements}
 use Rattle.laws.proofs.NeedMore.{needMore}
+use Rattle.laws.proofs.Only.{one-answer}
 use Rattle.laws.proofs.Refusals.{refusals}
 use Rattle.laws.proofs.Sound.{sound}
 
@@ -50,11 +51,6 @@ waits-too decode h rules s e = waiting (needMore rules s .1 (h rules s .0 e))
 -- one that refuses exactly as it should refuses as the decoder does
 refuses-too : (decode : Decoder) → Refusals decode → (rules : Rules) (s : List ℕ) (number place : ℕ) → Bytes s → ofDecoded (decode rules s) ≡ refusal number place → theDecoder rules s ≡ D.Refused number place
 refuses-too decode h rules s number place b e = refused (refusals rules s number place b .1 (h rules s number place b .0 e))
-
--- two answers of one item are one
-one-answer : (s : List ℕ) (x : Option Found) (a b : Element) → Answers s x a → Answers s x b → a ≡ b
-one-answer s none a b p q = element-refused p ∙ sym (element-refused q)
-one-answer s (some x) a b p q = element-is (p .is) ∙ sym (element-is (q .is))
 
 same-element : (call : ElementCall) → Elements call → (rules : Rules) (s : List ℕ) (r : Message) (n : ℕ) → Bytes s → ofDecoded (theDecoder rules s) ≡ success r n → (l i : ℕ) → call rules (take n s) l i ≡ theElementCall rules (take n s) l i
 same-element call h rules s r n b e l i =

@@ -233,7 +233,7 @@ fits-by (some x) consumed starts lengths l n e = by (leb (x .count) starts && le
     by true q = let same : x ≡ l = cc in (ap some same, cc)
     by false q = let z : _≡_ {A = ℕ} 0 1 = cc in absurd (omega arith)
 
-is-row : (m : Message) (l : ListSlot) → rowIn m ≡ some l → (row : DataRow) × (m ≡ M.DataRow row) × (dataOf row ≡ l)
+pub is-row : (m : Message) (l : ListSlot) → rowIn m ≡ some l → (row : DataRow) × (m ≡ M.DataRow row) × (dataOf row ≡ l)
 is-row (M.DataRow row) l e = (row, refl, cc)
 is-row (M.Parse r) l e = let z : _≡_ {A = ℕ} 0 1 = cc in absurd (omega arith)
 is-row (M.Bind r) l e = let z : _≡_ {A = ℕ} 0 1 = cc in absurd (omega arith)

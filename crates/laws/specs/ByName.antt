@@ -167,7 +167,6 @@ pub record ByName (encode : Encoder) (decode : Decoder) (call : ElementCall) : T
   pub flush : ComesBack encode decode call K.flush G.flush (Unit {0}) (Bare M.Flush)
   pub sync : ComesBack encode decode call K.sync G.sync (Unit {0}) (Bare M.Sync)
   pub «portal_suspended» : ComesBack encode decode call K.portalSuspended G.portalSuspended (Unit {0}) (Bare M.PortalSuspended)
-
   -- ---- copy.rs
 
   pub «copy_data» : («data» : List ℕ) → Bytes «data»
@@ -194,7 +193,6 @@ pub record ByName (encode : Encoder) (decode : Decoder) (call : ElementCall) : T
       (λ b r. (b .message ≡ M.CopyBothResponse r)
       × (r .format ≡ format)
       × Formats b 0 (r .«column_formats») «column_formats»)
-
   -- ---- data.rs
 
   pub «row_description» : (fields : List FieldDescription) (run : List ℕ) → All TypedField fields → Bytes run
@@ -210,7 +208,6 @@ pub record ByName (encode : Encoder) (decode : Decoder) (call : ElementCall) : T
       (λ b r. (b .message ≡ M.DataRow r)
       × Values b 0 (r .«data») lengths joined)
   pub «no_data» : ComesBack encode decode call K.noData G.noData (Unit {0}) (Bare M.NoData)
-
   -- ---- response.rs
 
   pub «command_complete» : (tag : List ℕ) → Bytes tag
@@ -240,7 +237,6 @@ pub record ByName (encode : Encoder) (decode : Decoder) (call : ElementCall) : T
       → ComesBack encode decode call (sslKind response) (G.sslResponse response) (Unit {0}) (Bare (M.SslResponse response))
   pub «gss_enc_response» : (response : GssEncResponse)
       → ComesBack encode decode call (gssKind response) (G.gssEncResponse response) (Unit {0}) (Bare (M.GssEncResponse response))
-
   -- ---- cancel.rs
 
   pub «cancel_request» : (pid «secret_key» : ℤ) → Signed 4 pid → Signed 4 «secret_key»

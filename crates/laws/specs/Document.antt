@@ -21,7 +21,6 @@ use Rattle.protocol.specs.Names.{nameOf}
 use Rattle.laws.specs.FieldNames.{Holds, number, integer, part, orNull, list, Named, fieldsOf, elementFields}
 
 infix 80 _∶_
-
 -- ---- the words of the tables
 
 -- what stands on the wire: a number of so many bits, unsigned or signed; one of some bytes; a string; a value; the rest of the frame

@@ -14,7 +14,7 @@ use Rattle.protocol.specs.Elements.{valueOr}
 use Rattle.protocol.specs.Kinds.{Kind, Mode, bind, dataRow, nullable}
 use Rattle.protocol.specs.WellFormed.{Contents, WellFormed, bodyStart, frame}
 use Rattle.laws.specs.Items.{found, Answers}
-use Rattle.laws.specs.Statements.{Decoder, ElementCall, IsNumbered}
+use Rattle.laws.specs.Statements.{Decoder, ElementCall, IsNumbered, decodeNumbers}
 
 -- 1. Elements. Of a well-formed frame, followed by any bytes, element n of list l is item n of that list of the content, positions and all, and the
 -- bytes at its positions are the item's; 11 where the content has no such list, or the list no such item.
@@ -42,7 +42,7 @@ ElementsMoreBytes call =
 
 -- 5. Numbered. A refusal has a number from 1 to 8, or 11; an element call consumes nothing, and where it is refused or needs more it gives no element.
 abbrev pub elementNumbers : List ℕ
-elementNumbers = 1 ∷ 2 ∷ 3 ∷ 4 ∷ 5 ∷ 6 ∷ 7 ∷ 8 ∷ 11 ∷ []
+elementNumbers = decodeNumbers ++ 11 ∷ []
 
 abbrev pub ElementsNumbered : ElementCall → Type 0
 ElementsNumbered call =

@@ -13,7 +13,6 @@ use Rattle.protocol.specs.declared.Span.{Span}
 use Rattle.protocol.specs.declared.data.FieldDescription.{FieldDescription}
 
 infix 80 _∶_
-
 -- a number, a signed number, the part that a string or a rest is, that of a value or NULL, a list
 pub data Holds : Type 0 where
   number : ℕ → Holds
