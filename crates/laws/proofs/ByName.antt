@@ -27,7 +27,7 @@ use Rattle.protocol.specs.WellFormed.{Contents, AllInRange, bodyStart, recordOf
 use Rattle.protocol.proofs.Open.{the-table}
 use Rattle.encode.specs.Given as G
 use Rattle.laws.specs.Arguments.{nth, sizeOf, itself, total, valueAt}
-use Rattle.laws.specs.ByName.{Back, ListIs, Oids, Formats, ValueIs, Values, FieldIs, RowFields, ErrorFields, ComesBack, Bare, ByName}
+use Rattle.laws.specs.ByName.{Back, ListIs, Oids, Formats, ValueIs, Values, FieldIs, RowFields, ErrorFields, theCodec, ComesBack, Bare, ByName}
 use Rattle.laws.specs.EncodeStatements.{theEncoder}
 use Rattle.laws.specs.Items.{itemFrom, found, AtomsPlaced, IsItem, Answers}
 use Rattle.laws.specs.Places.{AtomPlaced, ValuePlaced, FieldPlaced, FieldsPlaced}
@@ -46,7 +46,7 @@ record ContentBack (k : Kind) (c : Contents k) (b : Back) : Type 0 where
   elements : (l i : ℕ) → Answers (b .bytes) (found (k .body) start c l i) (b .element l i)
 
 abbrev Comes : (k : Kind) → Option (Contents k) → (R : Type 0) → (Back → R → Type 0) → Type 0
-Comes k given R Named = ComesBack theEncoder theDecoder theElementCall k given R Named
+Comes k given R Named = ComesBack theCodec k given R Named
 
 module _ (k : Kind) {R : Type 0} {Named : Back → R → Type 0} where
   comes-back : (given : Option (Contents k)) → ((c : Contents k) → given ≡ some c → AllInRange k c) → ((c : Contents k) (b : Back) → given ≡ some c → ContentBack k c b → (r : R) × Named b r) → Comes k given R Named
@@ -162,7 +162,7 @@ unfolding the-table G.gssEncResponse HoldsEach
 gss Gss.Accept = of-content K.gssAccept tt tt (λ b h. (tt, h .message))
 gss Gss.Refuse = of-content K.gssRefuse tt tt (λ b h. (tt, h .message))
 
-pub by-name : ByName theEncoder theDecoder theElementCall
+pub by-name : ByName theCodec
 unfolding the-table G.parse G.parseComplete G.close G.closeComplete G.bind G.bindComplete G.describe G.execute G.flush G.sync G.portalSuspended G.copyData G.copyDone G.copyFail G.copyInResponse G.copyOutResponse G.copyBothResponse G.rowDescription G.parameterDescription G.dataRow G.noData G.commandComplete G.emptyQueryResponse G.readyForQuery G.errorResponse G.noticeResponse G.notificationResponse G.cancelRequest HoldsEach InRange AtomInRange found FieldsPlaced FieldPlaced AtomPlaced slotsOfEach slot atomSlot
 by-name = record {
   parse = λ name query types n q o.

@@ -44,8 +44,8 @@ use Rattle.protocol.specs.Refusals.{noSuchElement}
 use Rattle.protocol.specs.WellFormed.{Contents}
 use Rattle.encode.specs.Given as G
 use Rattle.laws.specs.Arguments.{nth, All, Unsigned, Signed, TypedField, itself, sizeOf, total, valueAt}
-use Rattle.laws.specs.EncodeStatements.{Encoder}
-use Rattle.laws.specs.Statements.{Decoder, ElementCall}
+use Rattle.laws.specs.EncodeStatements.{Encoder, theEncoder}
+use Rattle.laws.specs.Statements.{Decoder, theDecoder, ElementCall, theElementCall}
 
 -- what comes back: the bytes that were decoded, the message, and what an element call says of them by list number and element number
 pub record Back : Type 0 where
@@ -106,46 +106,49 @@ ErrorFields b l list codes lengths joined =
 
 -- ---- what an encoder wrote
 
+pub record Codec : Type 0 where
+  pub encode : Encoder
+  pub decode : Decoder
+  pub element : ElementCall
+
+abbrev pub theCodec : Codec
+theCodec = record { encode = theEncoder; decode = theDecoder; element = theElementCall }
+
 -- what an encoder of the kind k wrote of what it was given, followed by any bytes, decodes, in every mode that has the kind, to a message for which there
 -- is a record r with `Named`; and its own bytes are consumed
-pub record ComesBack (encode : Encoder) (decode : Decoder) (call : ElementCall) (k : Kind) (given : Option (Contents k)) (R : Type 0) (Named : Back → R → Type 0) : Type 0 where
+pub record ComesBack (codec : Codec) (k : Kind) (given : Option (Contents k)) (R : Type 0) (Named : Back → R → Type 0) : Type 0 where
   pub comes :
-      (m : Mode) (out t : List ℕ) (n : ℕ) → IsIn m modes → IsIn k (m .kinds) → ofEncoded (encode m k given out .answer) ≡ success tt n
+      (m : Mode) (out t : List ℕ) (n : ℕ) → IsIn m modes → IsIn k (m .kinds) → ofEncoded (codec .encode m k given out .answer) ≡ success tt n
       → (rules : Rules) (reads : Mode) → IsIn reads modes → reads .mode ≡ rules .mode → IsIn k (reads .kinds)
-      → (message : Message) × (r : R)
-      × (ofDecoded (decode rules (take n (encode m k given out .output) ++ t)) ≡ success message n)
-      × Named
-      (record {
-        bytes = take n (encode m k given out .output) ++ t;
-        message = message;
-        element = call rules (take n (encode m k given out .output) ++ t);
-      })
-      r
+      → let s = take n (codec .encode m k given out .output) ++ t in
+      (message : Message) × (r : R)
+      × (ofDecoded (codec .decode rules s) ≡ success message n)
+      × Named (record { bytes = s; message = message; element = codec .element rules s }) r
 
 -- a kind with no field comes back as its message
 abbrev pub Bare : Message → Back → Unit {0} → Type 0
 Bare message b r = b .message ≡ message
 
-pub record ByName (encode : Encoder) (decode : Decoder) (call : ElementCall) : Type 0 where
+pub record ByName (codec : Codec) : Type 0 where
   -- ---- extendedquery.rs
 
   pub parse : (name query «type_oids» : List ℕ) → Bytes name → Bytes query → All (Unsigned 4) «type_oids»
-      → ComesBack encode decode call K.parse (G.parse name query «type_oids») Parse
+      → ComesBack codec K.parse (G.parse name query «type_oids») Parse
       (λ b r. (b .message ≡ M.Parse r)
       × Text b (r .name) name
       × Text b (r .query) query
       × Oids b 0 (r .«type_oids») «type_oids»)
-  pub «parse_complete» : ComesBack encode decode call K.parseComplete G.parseComplete (Unit {0}) (Bare M.ParseComplete)
+  pub «parse_complete» : ComesBack codec K.parseComplete G.parseComplete (Unit {0}) (Bare M.ParseComplete)
   pub close : («target_type» : ℕ) (name : List ℕ) → Unsigned 1 «target_type» → Bytes name
-      → ComesBack encode decode call K.close (G.close «target_type» name) Close
+      → ComesBack codec K.close (G.close «target_type» name) Close
       (λ b r. (b .message ≡ M.Close r)
       × (r .«target_type» ≡ «target_type»)
       × Text b (r .name) name)
-  pub «close_complete» : ComesBack encode decode call K.closeComplete G.closeComplete (Unit {0}) (Bare M.CloseComplete)
+  pub «close_complete» : ComesBack codec K.closeComplete G.closeComplete (Unit {0}) (Bare M.CloseComplete)
   pub bind : («portal_name» «statement_name» : List ℕ) («parameter_format_codes» lengths : List ℤ) (joined : List ℕ) («result_column_format_codes» : List ℤ)
       → Bytes «portal_name» → Bytes «statement_name» → All (Signed 2) «parameter_format_codes» → All (Signed 4) lengths → Bytes joined
       → All (Signed 2) «result_column_format_codes»
-      → ComesBack encode decode call K.bind
+      → ComesBack codec K.bind
       (G.bind «portal_name» «statement_name» «parameter_format_codes» lengths joined «result_column_format_codes») Bind
       (λ b r. (b .message ≡ M.Bind r)
       × Text b (r .«portal_name») «portal_name»
@@ -153,94 +156,94 @@ pub record ByName (encode : Encoder) (decode : Decoder) (call : ElementCall) : T
       × Formats b 0 (r .«parameter_format_codes») «parameter_format_codes»
       × Values b 1 (r .parameters) lengths joined
       × Formats b 2 (r .«result_column_format_codes») «result_column_format_codes»)
-  pub «bind_complete» : ComesBack encode decode call K.bindComplete G.bindComplete (Unit {0}) (Bare M.BindComplete)
+  pub «bind_complete» : ComesBack codec K.bindComplete G.bindComplete (Unit {0}) (Bare M.BindComplete)
   pub describe : («target_type» : ℕ) (name : List ℕ) → Unsigned 1 «target_type» → Bytes name
-      → ComesBack encode decode call K.describe (G.describe «target_type» name) Describe
+      → ComesBack codec K.describe (G.describe «target_type» name) Describe
       (λ b r. (b .message ≡ M.Describe r)
       × (r .«target_type» ≡ «target_type»)
       × Text b (r .name) name)
   pub execute : (name : List ℕ) («max_rows» : ℤ) → Bytes name → Signed 4 «max_rows»
-      → ComesBack encode decode call K.execute (G.execute name «max_rows») Execute
+      → ComesBack codec K.execute (G.execute name «max_rows») Execute
       (λ b r. (b .message ≡ M.Execute r)
       × Text b (r .name) name
       × (r .«max_rows» ≡ «max_rows»))
-  pub flush : ComesBack encode decode call K.flush G.flush (Unit {0}) (Bare M.Flush)
-  pub sync : ComesBack encode decode call K.sync G.sync (Unit {0}) (Bare M.Sync)
-  pub «portal_suspended» : ComesBack encode decode call K.portalSuspended G.portalSuspended (Unit {0}) (Bare M.PortalSuspended)
+  pub flush : ComesBack codec K.flush G.flush (Unit {0}) (Bare M.Flush)
+  pub sync : ComesBack codec K.sync G.sync (Unit {0}) (Bare M.Sync)
+  pub «portal_suspended» : ComesBack codec K.portalSuspended G.portalSuspended (Unit {0}) (Bare M.PortalSuspended)
   -- ---- copy.rs
 
   pub «copy_data» : («data» : List ℕ) → Bytes «data»
-      → ComesBack encode decode call K.copyData (G.copyData «data») CopyData
+      → ComesBack codec K.copyData (G.copyData «data») CopyData
       (λ b r. (b .message ≡ M.CopyData r)
       × Text b (r .«data») «data»)
-  pub «copy_done» : ComesBack encode decode call K.copyDone G.copyDone (Unit {0}) (Bare M.CopyDone)
+  pub «copy_done» : ComesBack codec K.copyDone G.copyDone (Unit {0}) (Bare M.CopyDone)
   pub «copy_fail» : (message : List ℕ) → Bytes message
-      → ComesBack encode decode call K.copyFail (G.copyFail message) CopyFail
+      → ComesBack codec K.copyFail (G.copyFail message) CopyFail
       (λ b r. (b .message ≡ M.CopyFail r)
       × Text b (r .message) message)
   pub «copy_in_response» : (format : ℤ) («column_formats» : List ℤ) → Signed 1 format → All (Signed 2) «column_formats»
-      → ComesBack encode decode call K.copyInResponse (G.copyInResponse format «column_formats») CopyInResponse
+      → ComesBack codec K.copyInResponse (G.copyInResponse format «column_formats») CopyInResponse
       (λ b r. (b .message ≡ M.CopyInResponse r)
       × (r .format ≡ format)
       × Formats b 0 (r .«column_formats») «column_formats»)
   pub «copy_out_response» : (format : ℤ) («column_formats» : List ℤ) → Signed 1 format → All (Signed 2) «column_formats»
-      → ComesBack encode decode call K.copyOutResponse (G.copyOutResponse format «column_formats») CopyOutResponse
+      → ComesBack codec K.copyOutResponse (G.copyOutResponse format «column_formats») CopyOutResponse
       (λ b r. (b .message ≡ M.CopyOutResponse r)
       × (r .format ≡ format)
       × Formats b 0 (r .«column_formats») «column_formats»)
   pub «copy_both_response» : (format : ℤ) («column_formats» : List ℤ) → Signed 1 format → All (Signed 2) «column_formats»
-      → ComesBack encode decode call K.copyBothResponse (G.copyBothResponse format «column_formats») CopyBothResponse
+      → ComesBack codec K.copyBothResponse (G.copyBothResponse format «column_formats») CopyBothResponse
       (λ b r. (b .message ≡ M.CopyBothResponse r)
       × (r .format ≡ format)
       × Formats b 0 (r .«column_formats») «column_formats»)
   -- ---- data.rs
 
   pub «row_description» : (fields : List FieldDescription) (run : List ℕ) → All TypedField fields → Bytes run
-      → ComesBack encode decode call K.rowDescription (G.rowDescription fields run) RowDescription
+      → ComesBack codec K.rowDescription (G.rowDescription fields run) RowDescription
       (λ b r. (b .message ≡ M.RowDescription r)
       × RowFields b 0 (r .fields) fields run)
   pub «parameter_description» : (types : List ℕ) → All (Unsigned 4) types
-      → ComesBack encode decode call K.parameterDescription (G.parameterDescription types) ParameterDescription
+      → ComesBack codec K.parameterDescription (G.parameterDescription types) ParameterDescription
       (λ b r. (b .message ≡ M.ParameterDescription r)
       × Oids b 0 (r .types) types)
   pub «data_row» : (lengths : List ℤ) (joined : List ℕ) → All (Signed 4) lengths → Bytes joined
-      → ComesBack encode decode call K.dataRow (G.dataRow lengths joined) DataRow
+      → ComesBack codec K.dataRow (G.dataRow lengths joined) DataRow
       (λ b r. (b .message ≡ M.DataRow r)
       × Values b 0 (r .«data») lengths joined)
-  pub «no_data» : ComesBack encode decode call K.noData G.noData (Unit {0}) (Bare M.NoData)
+  pub «no_data» : ComesBack codec K.noData G.noData (Unit {0}) (Bare M.NoData)
   -- ---- response.rs
 
   pub «command_complete» : (tag : List ℕ) → Bytes tag
-      → ComesBack encode decode call K.commandComplete (G.commandComplete tag) CommandComplete
+      → ComesBack codec K.commandComplete (G.commandComplete tag) CommandComplete
       (λ b r. (b .message ≡ M.CommandComplete r)
       × Text b (r .tag) tag)
-  pub «empty_query_response» : ComesBack encode decode call K.emptyQueryResponse G.emptyQueryResponse (Unit {0}) (Bare M.EmptyQueryResponse)
+  pub «empty_query_response» : ComesBack codec K.emptyQueryResponse G.emptyQueryResponse (Unit {0}) (Bare M.EmptyQueryResponse)
   pub «ready_for_query» : (status : ℕ) → Unsigned 1 status
-      → ComesBack encode decode call K.readyForQuery (G.readyForQuery status) ReadyForQuery
+      → ComesBack codec K.readyForQuery (G.readyForQuery status) ReadyForQuery
       (λ b r. (b .message ≡ M.ReadyForQuery r)
       × (r .status ≡ status))
   pub «error_response» : (codes lengths joined : List ℕ) → Bytes codes → Bytes joined
-      → ComesBack encode decode call K.errorResponse (G.errorResponse codes lengths joined) ErrorResponse
+      → ComesBack codec K.errorResponse (G.errorResponse codes lengths joined) ErrorResponse
       (λ b r. (b .message ≡ M.ErrorResponse r)
       × ErrorFields b 0 (r .fields) codes lengths joined)
   pub «notice_response» : (codes lengths joined : List ℕ) → Bytes codes → Bytes joined
-      → ComesBack encode decode call K.noticeResponse (G.noticeResponse codes lengths joined) NoticeResponse
+      → ComesBack codec K.noticeResponse (G.noticeResponse codes lengths joined) NoticeResponse
       (λ b r. (b .message ≡ M.NoticeResponse r)
       × ErrorFields b 0 (r .fields) codes lengths joined)
   pub «notification_response» : (pid : ℤ) (channel payload : List ℕ) → Signed 4 pid → Bytes channel → Bytes payload
-      → ComesBack encode decode call K.notificationResponse (G.notificationResponse pid channel payload) NotificationResponse
+      → ComesBack codec K.notificationResponse (G.notificationResponse pid channel payload) NotificationResponse
       (λ b r. (b .message ≡ M.NotificationResponse r)
       × (r .pid ≡ pid)
       × Text b (r .channel) channel
       × Text b (r .payload) payload)
   pub «ssl_response» : (response : SslResponse)
-      → ComesBack encode decode call (sslKind response) (G.sslResponse response) (Unit {0}) (Bare (M.SslResponse response))
+      → ComesBack codec (sslKind response) (G.sslResponse response) (Unit {0}) (Bare (M.SslResponse response))
   pub «gss_enc_response» : (response : GssEncResponse)
-      → ComesBack encode decode call (gssKind response) (G.gssEncResponse response) (Unit {0}) (Bare (M.GssEncResponse response))
+      → ComesBack codec (gssKind response) (G.gssEncResponse response) (Unit {0}) (Bare (M.GssEncResponse response))
   -- ---- cancel.rs
 
   pub «cancel_request» : (pid «secret_key» : ℤ) → Signed 4 pid → Signed 4 «secret_key»
-      → ComesBack encode decode call K.cancelRequest (G.cancelRequest pid «secret_key») CancelRequest
+      → ComesBack codec K.cancelRequest (G.cancelRequest pid «secret_key») CancelRequest
       (λ b r. (b .message ≡ M.CancelRequest r)
       × (r .pid ≡ pid)
       × (r .«secret_key» ≡ «secret_key»))
