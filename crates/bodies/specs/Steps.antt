@@ -6,7 +6,7 @@ use Rattle.protocol.specs.declared.Body.the-variants as B
 use Rattle.protocol.specs.declared.Body.{Body}
 use Rattle.protocol.specs.declared.Message.{Message}
 use Rattle.protocol.specs.declared.Rules.{Rules}
-use Rattle.protocol.specs.Decode.{bodyBy, bodyOf, closed}
+use Rattle.protocol.specs.Decode.{bodyBy, bodyOf, closed, tagPlace}
 use Rattle.protocol.specs.Each.{Each}
 use Rattle.protocol.specs.Fields.{Field, Slot}
 use Rattle.protocol.specs.Kinds.{Envelope, typed, untyped, bare, Kind, Mode, kindIn, target, string, i8, formats, close, describe, copyInResponse, copyOutResponse, copyBothResponse}
@@ -53,16 +53,17 @@ copyMessage D.Both = copyBothResponse .message
 -- ---- a whole frame of a mode, its kind told by its own tag
 
 abbrev pub tagRead : Envelope → List ℕ → Read ℕ
-tagRead typed f = readNumber 1 f 0
-tagRead untyped f = readNumber 4 f 4
-tagRead bare f = readNumber 1 f 0
+tagRead typed f = readNumber 1 f (tagPlace typed)
+tagRead untyped f = readNumber 4 f (tagPlace untyped)
+tagRead bare f = readNumber 1 f (tagPlace bare)
 
+-- an unknown tag is refused where it stands, and so is one that the frame is too short to hold
 abbrev pub bodyAs : Rules → Envelope → List ℕ → Option Kind → Body
-bodyAs rules e f none = B.Refused typeUnknown 0
+bodyAs rules e f none = B.Refused typeUnknown (tagPlace e)
 bodyAs rules e f (some k) = bodyOf rules k f (bodyStart e)
 
 unfoldable pub bodyAt : Rules → Mode → List ℕ → Read ℕ → Body
-bodyAt rules m f (bad number place) = B.Refused typeUnknown 0
+bodyAt rules m f (bad number place) = B.Refused typeUnknown (tagPlace (m .envelope))
 bodyAt rules m f (got tag next) = bodyAs rules (m .envelope) f (kindIn m tag)
 
 unfoldable pub bodyTold : Rules → Mode → List ℕ → Body
