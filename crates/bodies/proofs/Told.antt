@@ -6,6 +6,7 @@ use mathlib.Core.Path.{_≡_, refl, ap, sym, _∙_}
 use Rattle.protocol.specs.declared.Body.the-variants as B
 use Rattle.protocol.specs.declared.Body.{Body}
 use Rattle.protocol.specs.declared.Rules.{Rules}
+use Rattle.protocol.specs.Decode.{tagPlace}
 use Rattle.protocol.specs.Kinds.{Kind, Mode, kindIn}
 use Rattle.protocol.specs.Reading.{got, bad}
 use Rattle.protocol.specs.Refusals.{typeUnknown}
@@ -13,7 +14,7 @@ use Rattle.protocol.proofs.Find.{Apart, keysOnto, tagOf, kind-apart}
 use Rattle.bodies.specs.Steps.{tagRead, bodyAs, bodyAt, bodyTold}
 
 module _ (rules : Rules) (m : Mode) (f : List ℕ) where
-  pub told-cut : (k p : ℕ) → bad k p ≡ tagRead (m .envelope) f → B.Refused typeUnknown 0 ≡ bodyTold rules m f
+  pub told-cut : (k p : ℕ) → bad k p ≡ tagRead (m .envelope) f → B.Refused typeUnknown (tagPlace (m .envelope)) ≡ bodyTold rules m f
   unfolding bodyTold bodyAt
   told-cut k p e = rw (← e) refl
 
@@ -21,6 +22,6 @@ module _ (rules : Rules) (m : Mode) (f : List ℕ) where
   unfolding bodyTold bodyAt
   told-arm e h = rw (← e, h) refl
 
-  pub told-none : {t q : ℕ} → got t q ≡ tagRead (m .envelope) f → Apart t (keysOnto tagOf (m .kinds) []) → B.Refused typeUnknown 0 ≡ bodyTold rules m f
+  pub told-none : {t q : ℕ} → got t q ≡ tagRead (m .envelope) f → Apart t (keysOnto tagOf (m .kinds) []) → B.Refused typeUnknown (tagPlace (m .envelope)) ≡ bodyTold rules m f
   unfolding bodyTold bodyAt
   told-none {t} e h = rw (← e, kind-apart m t h) refl

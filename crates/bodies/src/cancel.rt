@@ -32,16 +32,19 @@ fn cancel_request(rules: Rules, frame: &[u8]) -> Body
     finished(frame, c, Message::CancelRequest(request))
 }
 
-// The kind is told by the code after the length.
+// Where the code stands, after the length, and where one that is unknown is refused.
+const CODE_AT: usize = 4;
+
+// The kind is told by the code.
 pub fn by_code(rules: Rules, frame: &[u8]) -> Body
     ensures { λ r. ⌜ r ≡ bodyTold rules K.cancel (now (frame .entry)) ⌝ }
 {
-    let c = Cursor { at: 4 };
+    let c = Cursor { at: CODE_AT };
     let Word::Is(code, _) = c.word(frame) else {
-        return Body::Refused(TYPE_UNKNOWN, 0);
+        return Body::Refused(TYPE_UNKNOWN, CODE_AT);
     };
     match code {
         CancelRequest::CANCEL_REQUEST_CODE => cancel_request(rules, frame),
-        _ => Body::Refused(TYPE_UNKNOWN, 0),
+        _ => Body::Refused(TYPE_UNKNOWN, CODE_AT),
     }
 }

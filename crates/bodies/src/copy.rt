@@ -1,12 +1,11 @@
 // The copy messages, as in copy.rs.
-ghost use mathlib.Core.List.{[], _∷_};
 ghost use mathlib.Core.Path.{_≡_};
 ghost use Rattle.protocol.specs.Decode.{bodyOf};
 ghost use Rattle.protocol.specs.Kinds as K;
-ghost use Rattle.protocol.specs.Reading.{read, readEach};
-ghost use Rattle.bodies.specs.Steps.{copyingRead};
+ghost use Rattle.bodies.specs.Steps.{bodyMade, copyFields, copyMessage};
 use crate::body::START;
 use crate::body::finished;
+use crate::body::refused;
 use codec::Byte;
 use codec::Cursor;
 use codec::Listed;
@@ -48,66 +47,62 @@ pub fn copy_fail(rules: Rules, frame: &[u8]) -> Body
     finished(frame, c, Message::CopyFail(CopyFail { message }))
 }
 
-// The body of the three responses: a format, and the columns' formats.
-pub enum Copying {
-    Is(i8, List, Cursor),
-    Refused(u8, usize),
+// Which of the three responses whose body is a format and the columns' formats.
+enum Direction {
+    In,
+    Out,
+    Both,
 }
 
-fn copy_response(rules: Rules, frame: &[u8]) -> Copying
-    ensures { λ r. ⌜ copyingRead r ≡ readEach (read rules) (K.i8 ∷ K.formats ∷ []) (now (frame .entry)) 5 ⌝ }
+fn copy_message(direction: Direction, format: i8, column_formats: List) -> Message
+    ensures { λ r. ⌜ r ≡ copyMessage direction (format, («column_formats», tt)) ⌝ }
+{
+    match direction {
+        Direction::In => Message::CopyInResponse(CopyInResponse {
+            format,
+            column_formats,
+        }),
+        Direction::Out => Message::CopyOutResponse(CopyOutResponse {
+            format,
+            column_formats,
+        }),
+        Direction::Both => Message::CopyBothResponse(CopyBothResponse {
+            format,
+            column_formats,
+        }),
+    }
+}
+
+// The body of the three responses.
+fn copy_response(rules: Rules, frame: &[u8], direction: Direction) -> Body
+    ensures { λ r. ⌜ r ≡ bodyMade rules copyFields (copyMessage direction) (now (frame .entry)) 5 ⌝ }
 {
     let c = Cursor { at: START };
-    let Byte::Is(byte, c) = c.byte(frame) else {
-        return Copying::Refused(CUT, c.at);
+    let Byte::Is(format, c) = c.byte(frame) else {
+        return Body::Refused(CUT, c.at);
     };
-    match c.formats(rules, frame) {
-        Listed::Is(column_formats, c) => Copying::Is(signed8(byte), column_formats, c),
-        Listed::Refused(number, place) => Copying::Refused(number, place),
-    }
+    let listed = c.formats(rules, frame);
+    let Listed::Is(column_formats, c) = listed else {
+        return refused(listed);
+    };
+    let message = copy_message(direction, signed8(format), column_formats);
+    finished(frame, c, message)
 }
 
 pub fn copy_in_response(rules: Rules, frame: &[u8]) -> Body
     ensures { λ r. ⌜ r ≡ bodyOf rules K.copyInResponse (now (frame .entry)) 5 ⌝ }
 {
-    match copy_response(rules, frame) {
-        Copying::Is(format, column_formats, c) => {
-            let response = CopyInResponse {
-                format,
-                column_formats,
-            };
-            finished(frame, c, Message::CopyInResponse(response))
-        }
-        Copying::Refused(number, place) => Body::Refused(number, place),
-    }
+    copy_response(rules, frame, Direction::In)
 }
 
 pub fn copy_out_response(rules: Rules, frame: &[u8]) -> Body
     ensures { λ r. ⌜ r ≡ bodyOf rules K.copyOutResponse (now (frame .entry)) 5 ⌝ }
 {
-    match copy_response(rules, frame) {
-        Copying::Is(format, column_formats, c) => {
-            let response = CopyOutResponse {
-                format,
-                column_formats,
-            };
-            finished(frame, c, Message::CopyOutResponse(response))
-        }
-        Copying::Refused(number, place) => Body::Refused(number, place),
-    }
+    copy_response(rules, frame, Direction::Out)
 }
 
 pub fn copy_both_response(rules: Rules, frame: &[u8]) -> Body
     ensures { λ r. ⌜ r ≡ bodyOf rules K.copyBothResponse (now (frame .entry)) 5 ⌝ }
 {
-    match copy_response(rules, frame) {
-        Copying::Is(format, column_formats, c) => {
-            let response = CopyBothResponse {
-                format,
-                column_formats,
-            };
-            finished(frame, c, Message::CopyBothResponse(response))
-        }
-        Copying::Refused(number, place) => Body::Refused(number, place),
-    }
+    copy_response(rules, frame, Direction::Both)
 }

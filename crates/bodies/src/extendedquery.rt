@@ -1,10 +1,8 @@
 // The extended query messages, as in extendedquery.rs.
-ghost use mathlib.Core.List.{[], _∷_};
 ghost use mathlib.Core.Path.{_≡_};
 ghost use Rattle.protocol.specs.Decode.{bodyOf};
 ghost use Rattle.protocol.specs.Kinds as K;
-ghost use Rattle.protocol.specs.Reading.{read, readEach};
-ghost use Rattle.bodies.specs.Steps.{aimedRead};
+ghost use Rattle.bodies.specs.Steps.{aimFields, aimMessage, bodyMade};
 use crate::body::START;
 use crate::body::finished;
 use crate::body::refused;
@@ -55,37 +53,42 @@ pub fn parse_complete(rules: Rules, frame: &[u8]) -> Body
     finished(frame, Cursor { at: START }, Message::ParseComplete)
 }
 
-// The body of Close and Describe: a target byte, and a name.
-pub enum Aimed {
-    At(u8, Span, Cursor),
-    Refused(u8, usize),
+// Which of the two kinds whose body is a target byte and a name.
+enum Act {
+    Close,
+    Describe,
 }
 
-fn aim(rules: Rules, frame: &[u8]) -> Aimed
-    ensures { λ r. ⌜ aimedRead r ≡ readEach (read rules) (K.target ∷ K.string ∷ []) (now (frame .entry)) 5 ⌝ }
+fn aim_message(act: Act, target_type: u8, name: Span) -> Message
+    ensures { λ r. ⌜ r ≡ aimMessage act («target_type», (name, tt)) ⌝ }
+{
+    match act {
+        Act::Close => Message::Close(Close { target_type, name }),
+        Act::Describe => Message::Describe(Describe { target_type, name }),
+    }
+}
+
+// The body of Close and Describe.
+fn aim(rules: Rules, frame: &[u8], act: Act) -> Body
+    ensures { λ r. ⌜ r ≡ bodyMade rules aimFields (aimMessage act) (now (frame .entry)) 5 ⌝ }
 {
     let c = Cursor { at: START };
     let Byte::Is(target_type, c) = c.byte(frame) else {
-        return Aimed::Refused(CUT, c.at);
+        return Body::Refused(CUT, c.at);
     };
     if !is_target(target_type) {
-        return Aimed::Refused(NOT_ALLOWED, START);
+        return Body::Refused(NOT_ALLOWED, START);
     }
     let Text::Is(name, c) = c.text(rules, frame) else {
-        return Aimed::Refused(CUT, c.at);
+        return Body::Refused(CUT, c.at);
     };
-    Aimed::At(target_type, name, c)
+    finished(frame, c, aim_message(act, target_type, name))
 }
 
 pub fn close(rules: Rules, frame: &[u8]) -> Body
     ensures { λ r. ⌜ r ≡ bodyOf rules K.close (now (frame .entry)) 5 ⌝ }
 {
-    match aim(rules, frame) {
-        Aimed::At(target_type, name, c) => {
-            finished(frame, c, Message::Close(Close { target_type, name }))
-        }
-        Aimed::Refused(number, place) => Body::Refused(number, place),
-    }
+    aim(rules, frame, Act::Close)
 }
 
 pub fn close_complete(rules: Rules, frame: &[u8]) -> Body
@@ -135,12 +138,7 @@ pub fn bind_complete(rules: Rules, frame: &[u8]) -> Body
 pub fn describe(rules: Rules, frame: &[u8]) -> Body
     ensures { λ r. ⌜ r ≡ bodyOf rules K.describe (now (frame .entry)) 5 ⌝ }
 {
-    match aim(rules, frame) {
-        Aimed::At(target_type, name, c) => {
-            finished(frame, c, Message::Describe(Describe { target_type, name }))
-        }
-        Aimed::Refused(number, place) => Body::Refused(number, place),
-    }
+    aim(rules, frame, Act::Describe)
 }
 
 pub fn execute(rules: Rules, frame: &[u8]) -> Body

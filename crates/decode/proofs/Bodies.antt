@@ -7,7 +7,7 @@ use native.Mathlib.Omega.{arith}
 use lib.ListN.{length, take}
 use Rattle.protocol.specs.declared.Body.the-variants as B
 use Rattle.protocol.specs.declared.Rules.{Rules}
-use Rattle.protocol.specs.Decode.{bodyOf, tagAt}
+use Rattle.protocol.specs.Decode.{bodyOf, tagAt, tagPlace}
 use Rattle.protocol.specs.Kinds.{Envelope, typed, untyped, bare, Kind, Mode, kindIn, modeOf}
 use Rattle.protocol.specs.Reading.{got}
 use Rattle.protocol.specs.Refusals.{typeUnknown}
@@ -27,7 +27,7 @@ in-mode rules m f e = rw e refl
 pub by-kind : (rules : Rules) (m : Mode) (f : List ℕ) {t n : ℕ} → t ≡ n → bodyAs rules (m .envelope) f (kindIn m n) ≡ bodyAs rules (m .envelope) f (kindIn m t)
 by-kind rules m f h = rw h refl
 
-pub by-none : (rules : Rules) (m : Mode) (f : List ℕ) (t : ℕ) → Apart t (keysOnto tagOf (m .kinds) []) → B.Refused typeUnknown 0 ≡ bodyAs rules (m .envelope) f (kindIn m t)
+pub by-none : (rules : Rules) (m : Mode) (f : List ℕ) (t : ℕ) → Apart t (keysOnto tagOf (m .kinds) []) → B.Refused typeUnknown (tagPlace (m .envelope)) ≡ bodyAs rules (m .envelope) f (kindIn m t)
 by-none rules m f t h = rw (kind-apart m t h) refl
 
 -- a whole frame tells its kind by its own bytes

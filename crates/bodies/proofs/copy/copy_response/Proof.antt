@@ -1,5 +1,5 @@
 -- `bodies::copy::copy_response` meets its contract: each step answers what the body's reading finds there.
-use mathlib.Core.Path.{refl}
+use mathlib.Core.Path.{refl, _∙_}
 use borrow.Author.Needs.{needs}
 use mir.Syntax.{w8}
 use Rattle.codec.proofs.Signs.{back}
@@ -11,15 +11,18 @@ returns c = rw (← c .before .before .byte .ensures, c .enum-told .given .1) re
 
 returns-2 : tie.Need-returns-2
 returns-2 c =
-    let s2 = c .before .before .before .before in
+    let s2 = c .before .before .before in
     let s1 = s2 .before .before .before .before in
-    rw (← s1 .byte .ensures, s2 .before .before .byte2 .given .1, ← s2 .formats .ensures, c .before .before .column-formats .given .1, ← c .signed8 .ensures, back w8 (c .signed8 .result) (c .signed8 .ok)) refl
+    c .refused .ensures ∙ rw (← s1 .byte .ensures, s2 .before .before .format .given .1, ← s2 .formats .ensures, c .before .enum-told2 .given .1) refl
 
 returns-3 : tie.Need-returns-3
 returns-3 c =
-    let s2 = c .before .before .before in
+    let m = c .before in
+    let b = m .before in
+    let s2 = b .before .before .before .before in
     let s1 = s2 .before .before .before .before in
-    rw (← s1 .byte .ensures, s2 .before .before .byte2 .given .1, ← s2 .formats .ensures, c .before .number .given .1) refl
+    let made = rw (back w8 (b .signed8 .result) (b .signed8 .ok)) at (m .copy-message .ensures) in
+    rw (← s1 .byte .ensures, s2 .before .before .format .given .1, ← s2 .formats .ensures, b .before .before .listed .given .1, ← b .signed8 .ensures, ← made) (c .finished .ensures)
 
 pub copy-response-spec : {M : Type 1} → statement M
 copy-response-spec =
@@ -31,7 +34,10 @@ copy-response-spec =
     returns
     (λ c κs. search needs)
     (λ c. search needs)
-    (λ c κs. search needs)
     (λ c. search needs)
+    (λ c κs. search needs)
     returns-2
+    (λ c κs. search needs)
+    (λ c κs. search needs)
+    (λ c κs. search needs)
     returns-3)

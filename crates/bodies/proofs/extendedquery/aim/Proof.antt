@@ -23,10 +23,11 @@ returns-3 c =
 
 returns-4 : tie.Need-returns-4
 returns-4 c =
-    let s2 = c .before .before .before in
+    let m = c .before in
+    let s2 = m .before .before .before .before in
     let t = s2 .before .before in
     let s1 = t .before .before .before .before in
-    rw (← s1 .byte .ensures, t .before .before .target-type .given .1, ← t .is-target .ensures, not-false (t .is-target .result) (s2 .before .if1 .left), ← s2 .text .ensures, c .before .name .given .1) refl
+    rw (← s1 .byte .ensures, t .before .before .target-type .given .1, ← t .is-target .ensures, not-false (t .is-target .result) (s2 .before .if1 .left), ← s2 .text .ensures, m .before .before .name .given .1, ← m .aim-message .ensures) (c .finished .ensures)
 
 pub aim-spec : {M : Type 1} → statement M
 aim-spec =
@@ -42,4 +43,6 @@ aim-spec =
     (λ c. search needs)
     (λ c. search needs)
     returns-3
+    (λ c κs. search needs)
+    (λ c κs. search needs)
     returns-4)
