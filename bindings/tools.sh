@@ -24,7 +24,7 @@ machine_tools() {
         with=qemu-x86_64
         cc="x86_64-linux-gnu-gcc -static"
     elif ! command -v "$cc" >/dev/null 2>&1; then
-        DEBIAN_FRONTEND=noninteractive timeout 600 apt-get install -y -q --no-install-recommends gcc libc6-dev >"$logs/apt.log" 2>&1 ||
+        timeout 600 "$root/compare/packages" gcc libc6-dev >"$logs/apt.log" 2>&1 ||
             skip "no C compiler, and Debian's cannot be had: see bindings/build/apt.log"
         cc=gcc
     fi

@@ -560,8 +560,7 @@ fn list(seed: u64, folder: &str) {
         for n in &row[..last] {
             line.push_str(&format!(" {n}"));
         }
-        line.push_str(" | ");
-        line.push_str(&in_words(seen, consumed));
+        line.push_str(&bar(answer, seen, consumed));
         if !lines.contains(&line) {
             lines.push(line);
         }
@@ -582,14 +581,13 @@ fn list(seed: u64, folder: &str) {
     }
 }
 
-fn in_words(seen: &Seen, consumed: usize) -> String {
-    match seen {
-        Seen::Record(Content { kind, .. }) => format!("{}, {consumed} consumed", model::named(*kind).name),
-        Seen::Other => "a kind that is left out".into(),
-        Seen::NeedMore => "waits".into(),
-        Seen::Refused(e) => e.to_string(),
-        Seen::Panicked => "panics".into(),
-        Seen::NotCalled => "not called".into(),
+/// The Rust's answer in numbers, where the model does not refuse: what it gives for a frame that is refused is a matter of docs/DIFFERENCES.md.
+fn bar(answer: &Answer, seen: &Seen, consumed: usize) -> String {
+    match (answer, seen) {
+        (Answer::Refused(..), _) => String::new(),
+        (_, Seen::Record(Content { kind, .. })) => format!(" | 0 {consumed} {kind}"),
+        (_, Seen::NeedMore) => " | 1".into(),
+        _ => unreachable!("the comparison fails where the Rust neither takes nor awaits what the model does"),
     }
 }
 

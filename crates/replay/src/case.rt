@@ -1,5 +1,6 @@
-// A case, read letter by letter: "MODE HH HH .. = N N .. | the Rust's answer in words". HH is a byte in hexadecimal digits, and the N are the
-// numbers that tusweram_decode is to give, without the zeros at their end. Whatever has another form is malformed.
+// A case, read letter by letter: "MODE HH HH .. = N N .." and, where the library is not to refuse, "| N N N". HH is a byte in hexadecimal digits. The
+// first N are the numbers that tusweram_decode is to give, without the zeros at their end; those after the bar are the Rust's answer: its status, and
+// the bytes consumed and the kind where it took a message. Whatever has another form is malformed.
 
 // Room for a frame.
 pub const ROOM: usize = 128;
@@ -7,15 +8,16 @@ pub const ROOM: usize = 128;
 // How many numbers an answer has.
 pub const ROW: usize = 16;
 
+// An answer and the Rust's, which begins at ROW.
+pub const BOTH: usize = 19;
+
 const IN_MODE: u8 = 0;
 
 const IN_BYTES: u8 = 1;
 
 const IN_NUMBERS: u8 = 2;
 
-const IN_WORDS: u8 = 3;
-
-const MALFORMED: u8 = 4;
+const MALFORMED: u8 = 3;
 
 const NO_DIGIT: u8 = 16;
 
@@ -46,7 +48,12 @@ pub fn start() -> Case {
 
 // A line that has all its parts.
 pub fn is_whole(case: Case) -> bool {
-    case.part == IN_WORDS
+    case.part == IN_NUMBERS
+}
+
+// Whether the Rust's answer stands in it.
+pub fn has_rust(case: Case) -> bool {
+    ROW < case.index
 }
 
 fn to_part(case: Case, part: u8) -> Case {
@@ -115,14 +122,14 @@ fn in_bytes(case: Case, letter: u8, frame: &mut [u8; ROOM]) -> Case {
     }
 }
 
-// The number that a space ends, if there is one.
-fn with_number(case: Case, expected: &mut [usize; ROW]) -> Case {
+// The number that a space or the line's end ends, if there is one.
+pub fn with_number(case: Case, expected: &mut [usize; BOTH]) -> Case {
     let mut case = case;
     let index = case.index;
     if case.digits == 0 {
         return case;
     }
-    if ROW <= index {
+    if BOTH <= index {
         return to_part(case, MALFORMED);
     }
     expected[index] = case.number;
@@ -147,15 +154,25 @@ fn with_digit(case: Case, value: u8) -> Case {
     case
 }
 
-fn in_numbers(case: Case, letter: u8, expected: &mut [usize; ROW]) -> Case {
+// The bar: what follows is the Rust's.
+fn at_bar(case: Case) -> Case {
+    let mut case = case;
+    if ROW < case.index {
+        return to_part(case, MALFORMED);
+    }
+    case.index = ROW;
+    case
+}
+
+fn in_numbers(case: Case, letter: u8, expected: &mut [usize; BOTH]) -> Case {
     match letter {
         b' ' => with_number(case, expected),
-        b'|' => to_part(case, IN_WORDS),
+        b'|' => at_bar(case),
         _ => with_digit(case, digit(letter)),
     }
 }
 
-pub fn step(case: Case, letter: u8, frame: &mut [u8; ROOM], expected: &mut [usize; ROW]) -> Case {
+pub fn step(case: Case, letter: u8, frame: &mut [u8; ROOM], expected: &mut [usize; BOTH]) -> Case {
     let part = case.part;
     match part {
         IN_MODE => in_mode(case, letter),

@@ -1,7 +1,8 @@
-// The fixed list of the comparison with the Rust, run through the library: each line holds a case, the numbers that document 01 says, worked out
-// by the comparison's model, and what the Rust answered. Here the library's numbers are compared with them.
+// The fixed list of the comparison with the Rust, run through the library: each line holds a case, the numbers that docs/FORMAT.md says, worked out
+// by the comparison's model, and, where the library does not refuse, what the Rust answered. The library's numbers are compared with both.
 mod case;
 
+use case::BOTH;
 use case::Case;
 use case::ROOM;
 use case::ROW;
@@ -14,6 +15,15 @@ const PIECES: usize = 32;
 // More than it has letters.
 const MOST: usize = 2097152;
 
+// Where an answer's status, bytes consumed and kind stand, and the status of a refusal.
+const STATUS: usize = 0;
+
+const CONSUMED: usize = 3;
+
+const KIND: usize = 4;
+
+const REFUSED: usize = 2;
+
 fn write(bytes: &[u8]) {
     io::write_all(STDOUT_FILENO, bytes);
 }
@@ -22,7 +32,7 @@ fn write_number(n: usize) {
     io::print_decimal(STDOUT_FILENO, n as u64);
 }
 
-fn are_equal(got: &[usize; ROW], expected: &[usize; ROW]) -> bool {
+fn are_equal(got: &[usize; ROW], expected: &[usize; BOTH]) -> bool {
     for i in 0..ROW {
         if got[i] != expected[i] {
             return false;
@@ -31,14 +41,23 @@ fn are_equal(got: &[usize; ROW], expected: &[usize; ROW]) -> bool {
     true
 }
 
-// Whether the library gives the case's numbers.
-fn holds(case: Case, frame: &[u8; ROOM], expected: &[usize; ROW]) -> bool {
+// Whether the Rust waits where the library does, and takes the same kind and bytes where the library takes a frame. The list has its answer exactly
+// where the library does not refuse.
+fn agrees_with_rust(case: Case, got: &[usize; ROW], expected: &[usize; BOTH]) -> bool {
+    if got[STATUS] == REFUSED {
+        return !case::has_rust(case);
+    }
+    case::has_rust(case)
+        && got[STATUS] == expected[ROW]
+        && got[CONSUMED] == expected[ROW + 1]
+        && got[KIND] == expected[ROW + 2]
+}
+
+// Whether the library gives the case's numbers, and what the Rust gave.
+fn holds(case: Case, frame: &[u8; ROOM], expected: &[usize; BOTH]) -> bool {
     let mut got = [0usize; ROW];
     host::decoding::tusweram_decode(case.mode, decode::part(frame, 0, case.count), &mut got);
-    if !case::is_whole(case) {
-        return false;
-    }
-    are_equal(&got, expected)
+    case::is_whole(case) && are_equal(&got, expected) && agrees_with_rust(case, &got, expected)
 }
 
 fn report(line: usize) {
@@ -60,10 +79,11 @@ struct Tally {
 }
 
 // A whole line.
-fn with_line(tally: Tally, frame: &[u8; ROOM], expected: &[usize; ROW]) -> Tally {
+fn with_line(tally: Tally, frame: &[u8; ROOM], expected: &mut [usize; BOTH]) -> Tally {
     let lines = next(tally.lines);
+    let read = case::with_number(tally.case, expected);
     let case = case::start();
-    if holds(tally.case, frame, expected) {
+    if holds(read, frame, expected) {
         let wrong = tally.wrong;
         return Tally { case, lines, wrong };
     }
@@ -76,11 +96,11 @@ fn with_letter(
     tally: Tally,
     letter: u8,
     frame: &mut [u8; ROOM],
-    expected: &mut [usize; ROW],
+    expected: &mut [usize; BOTH],
 ) -> Tally {
     if letter == b'\n' {
         let tally = with_line(tally, frame, expected);
-        *expected = [0usize; ROW];
+        *expected = [0usize; BOTH];
         return tally;
     }
     let case = case::step(tally.case, letter, frame, expected);
@@ -93,7 +113,7 @@ fn with_letters(
     tally: Tally,
     letters: &[u8],
     frame: &mut [u8; ROOM],
-    expected: &mut [usize; ROW],
+    expected: &mut [usize; BOTH],
 ) -> Tally {
     let mut tally = tally;
     for i in 0..letters.len() {
@@ -103,7 +123,7 @@ fn with_letters(
 }
 
 // The next piece of the list, which is empty behind its end.
-fn with_piece(tally: Tally, frame: &mut [u8; ROOM], expected: &mut [usize; ROW]) -> Tally {
+fn with_piece(tally: Tally, frame: &mut [u8; ROOM], expected: &mut [usize; BOTH]) -> Tally {
     let mut input = io::large_buffer();
     let count = io::read_full(STDIN_FILENO, &mut input);
     with_letters(tally, &input[..count], frame, expected)
@@ -111,7 +131,7 @@ fn with_piece(tally: Tally, frame: &mut [u8; ROOM], expected: &mut [usize; ROW])
 
 fn main() {
     let mut frame = [0u8; ROOM];
-    let mut expected = [0usize; ROW];
+    let mut expected = [0usize; BOTH];
     let case = case::start();
     let mut tally = Tally {
         case,
