@@ -1,4 +1,4 @@
-/* Each function of tusweram.h with known answers, worked out from document 01; NULL with length 0; numbers, places and lengths that reach past
+/* Each function of tusweram.h with known answers, worked out from docs/FORMAT.md; NULL with length 0; numbers, places and lengths that reach past
  * what is lent. Every buffer ends at the end of a page with nothing behind it, so a read or write past it stops the program. */
 #define _DEFAULT_SOURCE
 #include <stdarg.h>

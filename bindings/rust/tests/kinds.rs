@@ -1,4 +1,4 @@
-//! Every kind: bytes by hand from document 01, the encoder that writes them, the message that they are, and the numbers at the boundary.
+//! Every kind: bytes by hand from docs/FORMAT.md, the encoder that writes them, the message that they are, and the numbers at the boundary.
 
 mod common;
 

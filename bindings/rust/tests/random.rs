@@ -1,4 +1,4 @@
-//! Random frames of every kind, written here by document 01, read and written again; and bytes at random, which no call may fall over.
+//! Random frames of every kind, written here by docs/FORMAT.md, read and written again; and bytes at random, which no call may fall over.
 //! TUSWERAM_CASES says how many frames of each kind there are.
 
 mod common;

@@ -1,4 +1,4 @@
-//! Every refusal, with its number and place, by document 01's table and its frames that show the edges.
+//! Every refusal, with its number and place, by docs/FORMAT.md 6 and its frames that show the edges.
 
 mod common;
 

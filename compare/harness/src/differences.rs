@@ -180,7 +180,7 @@ pub fn judge_encoded(c: &Content, model: &Result<Vec<u8>, u8>, seen: &Result<Vec
     }
 }
 
-/// Why a content cannot be written: document 01's cases of refusal 10 that a content can have.
+/// Why a content cannot be written: the cases of refusal 10 (docs/FORMAT.md 9) that a content can have.
 fn unwritable(c: &Content) -> &'static str {
     for f in &c.fields {
         match f {

@@ -1,4 +1,4 @@
-//! Differential runs: the Rattle library, the Rust and a model of document 01 on the same inputs.
+//! Differential runs: the Rattle library, the Rust and a model of docs/FORMAT.md on the same inputs.
 //!
 //!     compare COUNT SEED CORPUS       inputs of every sort, until COUNT cases are made
 //!     compare list SEED CORPUS        the fixed list, on standard output
@@ -89,7 +89,7 @@ impl Run {
         let row = model::row(&expected);
         let got = ours::decode(mode, buf);
         if got != row {
-            self.fail("not what document 01 says", mode, buf, format!("ours {got:?}\n  model {row:?}"));
+            self.fail("not what the model says", mode, buf, format!("ours {got:?}\n  model {row:?}"));
         }
         let quadratic = mode == 1
             && buf.len() > 4096
@@ -209,7 +209,7 @@ impl Run {
         }
     }
 
-    /// One content: what the model of document 01, the Rust and the library write of it.
+    /// One content: what the model, the Rust and the library write of it.
     fn encode(&mut self, c: &Content) {
         self.encoded += 1;
         let g = model::given(c);

@@ -1,4 +1,4 @@
-//! Document 01, "Planned build and precise rules", as a small program: what decode, an element call and an encoder answer.
+//! docs/FORMAT.md as a small program: what decode, an element call and an encoder answer.
 //! It is written from the document and from nothing else: neither the Rattle code nor its definitions nor the Rust.
 
 use crate::content::{Content, Field, RowField};

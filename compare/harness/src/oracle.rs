@@ -24,7 +24,7 @@ fn caught<T>(call: impl FnOnce() -> T) -> Option<T> {
 #[derive(Clone, PartialEq, Eq, Debug)]
 pub enum Seen {
     Record(Content),
-    /// A message that document 01 leaves out.
+    /// A message that is left out.
     Other,
     NeedMore,
     /// The error's name.

@@ -1,4 +1,4 @@
--- Of each case of a cursor's step, which began at p: what was read and the next place, or document 01's refusal number and place.
+-- Of each case of a cursor's step, which began at p: what was read and the next place, or the refusal's number and place (docs/FORMAT.md 5).
 use Prim.Native.Nat.{ℕ}
 use mathlib.Core.Option.{Option, some, none}
 use Rattle.protocol.specs.declared.List.{List as ListSlot}

@@ -1,4 +1,4 @@
-// A frame's header: its checks, in document 01's order.
+// A frame's header: its checks, in the order of docs/FORMAT.md 3.
 ghost use mathlib.Core.Path.{_≡_};
 ghost use lib.ListN.{length};
 ghost use Rattle.protocol.specs.Bytes.{signedOf};

@@ -1,4 +1,4 @@
-// Document 01's edges, run: each line of the input is a case in text, and is written back with what decode or an element call answers.
+// The edges of the format, run: each line of the input is a case in text, and is written back with what decode or an element call answers.
 ghost use Prim.Native.Nat.{_≤_};
 ghost use lib.ListN.{length};
 

@@ -28,7 +28,7 @@ use protocol::kinds::LARGE;
 use protocol::kinds::SMALL;
 
 fn write_copy_data(data: &[u8], n: usize, out: &mut [u8])
-    requires { ⌜ (n ≡ length (now «data») + 5) × (n ≤ length (now out)) × (n ≤ 1048577) ⌝ }
+    requires { ⌜ (n ≡ length (now «data») + 5) × (n ≤ length (now out)) × (n ≤ K.largeFrame) ⌝ }
     ensures { λ r. ⌜ Framed K.typed K.copyData (G.copyData (now («data» .entry))) (now (out .entry)) (now (out .exit)) ⌝ }
 {
     let at = put_head(out, MESSAGE_TYPE_BYTE_COPY_DATA, n);
@@ -65,7 +65,7 @@ pub fn copy_fail(message: &[u8], out: &mut [u8]) -> Encoded
 
 // format is the bits of the overall format.
 fn write_copy_response(type_byte: u8, format: u8, column_formats: &[i16], n: usize, out: &mut [u8])
-    requires { ⌜ (n ≡ 2 * length (now «column_formats») + 8) × (n ≤ length (now out)) × (n ≤ 8193) ⌝ }
+    requires { ⌜ (n ≡ 2 * length (now «column_formats») + 8) × (n ≤ length (now out)) × (n ≤ K.smallFrame) ⌝ }
     ensures { λ r. ⌜ ((z : ℤ) → format ≡ bitsOf 1 z → Framed K.typed (G.formatted «type_byte») (G.formatsOf «type_byte» z (now («column_formats» .entry))) (now (out .entry)) (now (out .exit))) ⌝ }
 {
     let at = put_head(out, type_byte, n);

@@ -56,7 +56,7 @@ pub fn row_description_of_two(fields: [FieldDescription; 2], run: &[u8], out: &m
 }
 
 fn write_parameter_description(types: &[u32], n: usize, out: &mut [u8])
-    requires { ⌜ (n ≡ 4 * length (now types) + 7) × (n ≤ length (now out)) × (n ≤ 1048577) × (length (now types) ≤ 32767) ⌝ }
+    requires { ⌜ (n ≡ 4 * length (now types) + 7) × (n ≤ length (now out)) × (n ≤ K.largeFrame) × (length (now types) ≤ 32767) ⌝ }
     ensures { λ r. ⌜ Framed K.typed K.parameterDescription (G.parameterDescription (now (types .entry))) (now (out .entry)) (now (out .exit)) ⌝ }
 {
     let at = put_head(out, MESSAGE_TYPE_BYTE_PARAMETER_DESCRITION, n);
@@ -77,7 +77,7 @@ pub fn parameter_description(types: &[u32], out: &mut [u8]) -> Encoded
 }
 
 fn write_data_row(lengths: &[i32], joined: &[u8], n: usize, out: &mut [u8])
-    requires { ⌜ (n ≡ length (now joined) + 4 * length (now lengths) + 7) × (n ≤ length (now out)) × (n ≤ 1048577) × (length (now lengths) ≤ 32767) × (isSome (valuesGiven (now lengths) (now joined)) ≡ true) ⌝ }
+    requires { ⌜ (n ≡ length (now joined) + 4 * length (now lengths) + 7) × (n ≤ length (now out)) × (n ≤ K.largeFrame) × (length (now lengths) ≤ 32767) × (isSome (valuesGiven (now lengths) (now joined)) ≡ true) ⌝ }
     ensures { λ r. ⌜ Framed K.typed K.dataRow (G.dataRow (now (lengths .entry)) (now (joined .entry))) (now (out .entry)) (now (out .exit)) ⌝ }
 {
     let at = put_head(out, MESSAGE_TYPE_BYTE_DATA_ROW, n);

@@ -41,7 +41,7 @@ use protocol::kinds::LARGE;
 use protocol::kinds::SMALL;
 
 fn write_parse(name: &[u8], query: &[u8], type_oids: &[u32], n: usize, out: &mut [u8])
-    requires { ⌜ (n ≡ length (now name) + length (now query) + 4 * length (now «type_oids») + 9) × (n ≤ length (now out)) × (n ≤ 1048577) × (length (now «type_oids») ≤ 32767) ⌝ }
+    requires { ⌜ (n ≡ length (now name) + length (now query) + 4 * length (now «type_oids») + 9) × (n ≤ length (now out)) × (n ≤ K.largeFrame) × (length (now «type_oids») ≤ 32767) ⌝ }
     ensures { λ r. ⌜ Framed K.typed K.parse (G.parse (now (name .entry)) (now (query .entry)) (now («type_oids» .entry))) (now (out .entry)) (now (out .exit)) ⌝ }
 {
     let at = put_head(out, MESSAGE_TYPE_BYTE_PARSE, n);
@@ -73,7 +73,7 @@ fn write_bind(
     n: usize,
     out: &mut [u8],
 )
-    requires { ⌜ (n ≡ length (now «portal_name») + length (now «statement_name») + 2 * length (now «parameter_format_codes») + 4 * length (now lengths) + length (now joined) + 2 * length (now «result_column_format_codes») + 13) × (n ≤ length (now out)) × (n ≤ 1048577) × (length (now «parameter_format_codes») ≤ 32767) × (length (now lengths) ≤ 32767) × (length (now «result_column_format_codes») ≤ 32767) × (isSome (valuesGiven (now lengths) (now joined)) ≡ true) ⌝ }
+    requires { ⌜ (n ≡ length (now «portal_name») + length (now «statement_name») + 2 * length (now «parameter_format_codes») + 4 * length (now lengths) + length (now joined) + 2 * length (now «result_column_format_codes») + 13) × (n ≤ length (now out)) × (n ≤ K.largeFrame) × (length (now «parameter_format_codes») ≤ 32767) × (length (now lengths) ≤ 32767) × (length (now «result_column_format_codes») ≤ 32767) × (isSome (valuesGiven (now lengths) (now joined)) ≡ true) ⌝ }
     ensures { λ r. ⌜ Framed K.typed K.bind (G.bind (now («portal_name» .entry)) (now («statement_name» .entry)) (now («parameter_format_codes» .entry)) (now (lengths .entry)) (now (joined .entry)) (now («result_column_format_codes» .entry))) (now (out .entry)) (now (out .exit)) ⌝ }
 {
     let at = put_head(out, MESSAGE_TYPE_BYTE_BIND, n);
@@ -124,7 +124,7 @@ pub fn bind(
 }
 
 fn write_aim(type_byte: u8, target_type: u8, name: &[u8], n: usize, out: &mut [u8])
-    requires { ⌜ (n ≡ length (now name) + 7) × (n ≤ length (now out)) × (n ≤ 8193) ⌝ }
+    requires { ⌜ (n ≡ length (now name) + 7) × (n ≤ length (now out)) × (n ≤ K.smallFrame) ⌝ }
     ensures { λ r. ⌜ Framed K.typed (G.aimed «type_byte») (G.aimOf «type_byte» «target_type» (now (name .entry))) (now (out .entry)) (now (out .exit)) ⌝ }
 {
     let at = put_head(out, type_byte, n);
@@ -160,7 +160,7 @@ pub fn describe(target_type: u8, name: &[u8], out: &mut [u8]) -> Encoded
 
 // rows is the bits of the number of rows.
 fn write_execute(name: &[u8], rows: u32, n: usize, out: &mut [u8])
-    requires { ⌜ (n ≡ length (now name) + 10) × (n ≤ length (now out)) × (n ≤ 8193) ⌝ }
+    requires { ⌜ (n ≡ length (now name) + 10) × (n ≤ length (now out)) × (n ≤ K.smallFrame) ⌝ }
     ensures { λ r. ⌜ ((z : ℤ) → rows ≡ bitsOf 4 z → Framed K.typed K.execute (G.execute (now (name .entry)) z) (now (out .entry)) (now (out .exit))) ⌝ }
 {
     let at = put_head(out, MESSAGE_TYPE_BYTE_EXECUTE, n);

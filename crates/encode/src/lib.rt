@@ -11,7 +11,7 @@ ghost use mathlib.Core.Option.{some};
 ghost use mathlib.Core.Path.{_≡_};
 ghost use lib.ListN.{length};
 ghost use Rattle.protocol.specs.Encode.{Encodes, valuesGiven};
-ghost use Rattle.protocol.specs.Kinds.{frontend, typed, values};
+ghost use Rattle.protocol.specs.Kinds.{frontend, smallFrame, typed, values};
 ghost use Rattle.pen.specs.Given.{isSome};
 ghost use Rattle.pen.specs.Writing.{Framed};
 ghost use Rattle.encode.specs.Given.{fieldless, textOf, texted};
@@ -48,7 +48,7 @@ fn bare(type_byte: u8, out: &mut [u8]) -> Encoded
 }
 
 fn write_one_text(type_byte: u8, s: &[u8], n: usize, out: &mut [u8])
-    requires { ⌜ (n ≡ length (now s) + 6) × (n ≤ length (now out)) × (n ≤ 8193) ⌝ }
+    requires { ⌜ (n ≡ length (now s) + 6) × (n ≤ length (now out)) × (n ≤ smallFrame) ⌝ }
     ensures { λ r. ⌜ Framed typed (texted «type_byte») (textOf «type_byte» (now (s .entry))) (now (out .entry)) (now (out .exit)) ⌝ }
 {
     let at = put_head(out, type_byte, n);

@@ -96,7 +96,7 @@ fn write_report(
     n: usize,
     out: &mut [u8],
 )
-    requires { ⌜ (n ≡ 2 * length (now codes) + length (now joined) + 6) × (n ≤ length (now out)) × (n ≤ 1048577) × (isSome (errorFieldsGiven (now codes) (now lengths) (now joined)) ≡ true) ⌝ }
+    requires { ⌜ (n ≡ 2 * length (now codes) + length (now joined) + 6) × (n ≤ length (now out)) × (n ≤ K.largeFrame) × (isSome (errorFieldsGiven (now codes) (now lengths) (now joined)) ≡ true) ⌝ }
     ensures { λ r. ⌜ Framed K.typed (G.reported «type_byte») (G.reportOf «type_byte» (now (codes .entry)) (now (lengths .entry)) (now (joined .entry))) (now (out .entry)) (now (out .exit)) ⌝ }
 {
     let at = put_head(out, type_byte, n);
@@ -143,7 +143,7 @@ pub fn notice_response(codes: &[u8], lengths: &[u32], joined: &[u8], out: &mut [
 
 // pid is the bits of the process number.
 fn write_notification_response(pid: u32, channel: &[u8], payload: &[u8], n: usize, out: &mut [u8])
-    requires { ⌜ (n ≡ length (now channel) + length (now payload) + 11) × (n ≤ length (now out)) × (n ≤ 1048577) ⌝ }
+    requires { ⌜ (n ≡ length (now channel) + length (now payload) + 11) × (n ≤ length (now out)) × (n ≤ K.largeFrame) ⌝ }
     ensures { λ r. ⌜ ((z : ℤ) → pid ≡ bitsOf 4 z → Framed K.typed K.notificationResponse (G.notificationResponse z (now (channel .entry)) (now (payload .entry))) (now (out .entry)) (now (out .exit))) ⌝ }
 {
     let at = put_head(out, MESSAGE_TYPE_BYTE_NOTIFICATION_RESPONSE, n);

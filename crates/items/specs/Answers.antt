@@ -1,4 +1,4 @@
--- Of each case of an item's step: what was read and the next place, or document 01's refusal number and place.
+-- Of each case of an item's step: what was read and the next place, or the refusal's number and place (docs/FORMAT.md 5).
 use Prim.Native.Nat.{ℕ}
 use Rattle.protocol.specs.declared.data.FieldDescription.{FieldDescription}
 use Rattle.protocol.specs.Each.{Each}

@@ -1,4 +1,4 @@
--- Law 6: the starred lines of document 01, with the elements that they name, as one statement over their list: each is computed.
+-- Law 6: the starred lines of docs/FORMAT.md 11, with the elements that they name, as one statement over their list: each is computed.
 use mathlib.Core.Path.{refl}
 use Rattle.protocol.specs.Answers.{ofDecoded, ofElement}
 use Rattle.protocol.specs.Elements.{listIn, elementBy, elementAt, elementIn, elementOf}

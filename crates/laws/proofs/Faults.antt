@@ -1,4 +1,4 @@
--- What was refused has the fault that document 01 names, after right contents: for atoms, items, lists and fields.
+-- What was refused has the fault that docs/FORMAT.md 5 names, after right contents: for atoms, items, lists and fields.
 use Prim.Native.Nat.{ℕ, zero, suc, _+_, _-_, _*_, _≤_, _<_}
 use mathlib.Core.Bool.{Bool, true, false, cond, not, _&&_}
 use mathlib.Core.List.{List, [], _∷_}

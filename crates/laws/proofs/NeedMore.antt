@@ -90,7 +90,7 @@ module _ (m : Mode) (known : IsIn m modes) (s : List ℕ) where
   bare-answers none e = not-refused e
   bare-answers (some k) e = not-framed e
 
-  -- a header that waits, for its tag or after it, does so as document 01 says
+  -- a header that waits, for its tag or after it, does so as docs/FORMAT.md 3 says
   in-waits : (e : Envelope) → (length s < tagEnd e) ⊎ ((tagEnd e ≤ length s) × (afterTag e (kindIn m (tagAt e s)) s ≡ more)) → WaitsIn e (m .kinds) s
   in-waits typed (inl l) = inl (omega arith)
   in-waits typed (inr h) = inr (typed-waits _ refl (h .0) (h .1))
@@ -99,7 +99,7 @@ module _ (m : Mode) (known : IsIn m modes) (s : List ℕ) where
   in-waits bare (inl l) = omega arith
   in-waits bare (inr h) = absurd (bare-answers _ (h .1))
 
-  -- and where document 01 says so, it waits
+  -- and where docs/FORMAT.md 3 says so, it waits
   waits-in : (e : Envelope) → WaitsIn e (m .kinds) s → (length s < tagEnd e) ⊎ (afterTag e (kindIn m (tagAt e s)) s ≡ more)
   unfolding typedBy untypedBy
   waits-in typed (inl z) = inl (omega arith)
@@ -125,7 +125,7 @@ waits-mode : (rules : Rules) (s : List ℕ) → Waits (rules .mode) s → header
 unfolding headerOf headerBy
 waits-mode rules s w = rw (mode-found rules (w .is) .1 (w .known, w .number), header-is) (waits _ _ (waits-in (w .is) (w .known) s (w .is .envelope) (w .waits)))
 
--- a header waits exactly as document 01 says
+-- a header waits exactly as docs/FORMAT.md 3 says
 pub header-waits : (rules : Rules) (s : List ℕ) → (headerOf rules s ≡ more) ↔ Waits (rules .mode) s
 unfolding headerOf
 header-waits rules s = (mode-waits rules s (modeOf rules) refl, waits-mode rules s)

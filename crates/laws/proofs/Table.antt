@@ -1,4 +1,4 @@
--- The table of kinds: held against document 01's lines, and against its own shape. A test over all rows is computed, and a law carries it to each.
+-- The table of kinds: held against the lines of docs/FORMAT.md 4, and against its own shape. A test over all rows is computed, and a law carries it to each.
 use Prim.Native.Nat.{ℕ}
 use mathlib.Core.Bool.{Bool, true, false, cond, not, _&&_}
 use mathlib.Core.List.{List, [], _∷_}

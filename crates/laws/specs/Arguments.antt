@@ -1,4 +1,4 @@
--- What an encoder's lists of arguments mean, item by item: said without walking them together, as document 01 has it.
+-- What an encoder's lists of arguments mean, item by item: said without walking them together, as docs/FORMAT.md 9 has it.
 use Prim.Native.Nat.{ℕ, zero, suc, _+_, _/_, _^_, _<_}
 use mathlib.Core.List.{List, [], _∷_}
 use mathlib.Core.Logic.{_⊎_}

@@ -1,4 +1,4 @@
--- The starred lines of document 01's "Frames that show the edges".
+-- The starred lines of docs/FORMAT.md 11, the frames that show the edges.
 use Prim.Native.Nat.{ℕ}
 use mathlib.Core.List.{List, [], _∷_}
 use mathlib.Core.Path.{_≡_}

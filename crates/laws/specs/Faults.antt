@@ -1,4 +1,4 @@
--- The faults of document 01's table of refusals, 5 to 8, in words that do not mention reading. `g` is what stands from a place to the frame's
+-- The faults of a body, 5 to 8 (docs/FORMAT.md 5), in words that do not mention reading. `g` is what stands from a place to the frame's
 -- end. A fault in a list of things has before it the bytes of right contents of all that comes before, and its place is where those end.
 use Prim.Native.Nat.{ℕ, suc, _+_, _*_, _<_, _≤_}
 use mathlib.Core.Bool.{true, false}

@@ -1,4 +1,4 @@
--- What a record holds, and what an element holds, field by field in the body's order, each under its name.
+-- What a record holds, and what an element holds, field by field in the body's order, each under its name (docs/FORMAT.md 4).
 use Prim.Native.Nat.{ℕ}
 use Prim.Native.String.{String}
 use mathlib.Core.List.{List, [], _∷_}

@@ -1,4 +1,4 @@
--- What is proved of the listing's steps: what stands at a place of a stream. That the lines of a listing are those of its steps is proved in crate
+-- What is proved of the listing's steps: what stands at a place of a stream (docs/FORMAT.md 10). That the lines of a listing are those of its steps is proved in crate
 -- listing (proofs/Printed).
 use Prim.Native.Nat.{ℕ, _≤_, _<_}
 use mathlib.Core.List.{List}

@@ -1,4 +1,4 @@
--- That the statements shut out what document 01 says they must: each useless build and each shortcut breaks the statement of its demand.
+-- That the statements shut out what they must: each useless build and each shortcut breaks the statement of its demand.
 use Rattle.protocol.specs.Encode.{encodedBy}
 use Rattle.laws.specs.ElementStatements.{Elements}
 use Rattle.laws.specs.EncodeStatements.{encoderWith, theEncoder, Exactly, Unchanged, RoundTrip}

@@ -1,4 +1,4 @@
--- The useless builds and the tempting shortcuts that document 01 names, and a few more: what a decoder, an element call or an encoder must not do.
+-- Useless builds and tempting shortcuts: what a decoder, an element call or an encoder must not do.
 -- They are here to be refused: Rejected.antt says which statement each breaks, and the must-fail edits put each in the place of what is proved.
 use Prim.Native.Nat.{ℕ, _+_}
 use mathlib.Core.Bool.{cond, _&&_}

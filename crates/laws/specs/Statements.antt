@@ -83,7 +83,7 @@ MoreBytes decode =
 abbrev pub NeedMore : Decoder → Type 0
 NeedMore decode = (rules : Rules) (s : List ℕ) → (ofDecoded (decode rules s) ≡ needsMore) ↔ Waits (rules .mode) s
 
--- 6. Edges. The starred lines of document 01, with the elements that they name.
+-- 6. Edges. The starred lines of docs/FORMAT.md 11, with the elements that they name.
 abbrev pub Edges : Decoder → ElementCall → Type 0
 Edges decode call = Answered decode call edges
 

@@ -1,4 +1,4 @@
--- When a buffer waits for more bytes, from document 01's "Frame and order of checks": the mode is known, every check on the header bytes that
+-- When a buffer waits for more bytes, from the order of checks (docs/FORMAT.md 3): the mode is known, every check on the header bytes that
 -- are there passes, and the frame's end has not arrived.
 use Prim.Native.Nat.{ℕ, _+_, _≤_, _<_}
 use mathlib.Core.List.{List}

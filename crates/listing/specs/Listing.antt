@@ -1,4 +1,4 @@
--- The listing of a whole input, as document 01 has it: a digit for the mode, then the stream of frames.
+-- The listing of a whole input (docs/FORMAT.md 10): a digit for the mode, then the stream of frames.
 use Prim.Native.Nat.{ℕ, zero, suc, _+_, _-_, _≤_}
 use mathlib.Core.Bool.{cond}
 use mathlib.Core.List.{List, [], _∷_, _++_}

@@ -12,7 +12,7 @@ use Rattle.protocol.specs.declared.Encoded.the-variants as N
 use Rattle.protocol.specs.declared.Encoded.{Encoded}
 use Rattle.protocol.specs.Bytes.{be}
 use Rattle.protocol.specs.Encode.{encodedBy, writtenBy, Encodes}
-use Rattle.protocol.specs.Kinds.{Envelope, typed, untyped, bare, Kind, Mode}
+use Rattle.protocol.specs.Kinds.{Envelope, typed, untyped, bare, Kind, Mode, largeFrame}
 use Rattle.protocol.specs.Refusals.{lengthAboveLimit, outputTooShort, notRepresentable}
 use Rattle.protocol.specs.WellFormed.{Contents, bodyBytes, lengthOf, header, bodyStart, frame, allAble}
 use Rattle.pen.specs.Writing.{write, Wrote, Put, Framed, verdictOf}
@@ -61,8 +61,8 @@ framed {d} {mid} {left} {n} k c h b e =
 
 -- the same, by writers that look for their room
 pub framed-put : {d mid left : List ℕ} {n at next size : ℕ} (k : Kind) (c : Contents k)
-    → Put (leb 5 n && leb n 1048577) d 0 (header typed (k .tag) (n - 5)) 5 mid at → Fits mid at (bodyBytes k c) size left next → n ≡ 5 + size
-    → n ≤ length d → n ≤ 1048577 → Framed typed k (some c) d left
+    → Put (leb 5 n && leb n largeFrame) d 0 (header typed (k .tag) (n - 5)) 5 mid at → Fits mid at (bodyBytes k c) size left next → n ≡ 5 + size
+    → n ≤ length d → n ≤ largeFrame → Framed typed k (some c) d left
 framed-put k c head body e room small =
     let h = headed head (omega arith) room small in
     framed k c h (body (omega (arith, h .place, same-size h))) e

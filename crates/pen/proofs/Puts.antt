@@ -7,6 +7,7 @@ use native.Mathlib.Omega.{arith}
 use borrow.Author.Tests.{leb-true, leb-false, le-leb, lt-leb}
 use lib.Dec.{leb}
 use lib.ListN.{length, set, length-set}
+use Rattle.protocol.specs.Kinds.{largeFrame}
 use Rattle.pen.specs.Writing.{write, Wrote, Put}
 use Rattle.pen.proofs.Laws.{_then_, nothing}
 use Rattle.pen.proofs.Lists.{and-left, and-right}
@@ -61,5 +62,5 @@ pub none : {d : List ℕ} {p : ℕ} → Fits d p [] 0 d p
 none h = nothing
 
 -- the head of a frame of n bytes, where they are a frame and have room
-pub headed : {d xs out : List ℕ} {n next : ℕ} → Put (leb 5 n && leb n 1048577) d 0 xs 5 out next → 5 ≤ n → n ≤ length d → n ≤ 1048577 → Wrote d 0 xs 5 out next
-headed {n = n} w some room small = w .fits (rw (le-leb 5 n some, le-leb n 1048577 small) refl) (omega arith)
+pub headed : {d xs out : List ℕ} {n next : ℕ} → Put (leb 5 n && leb n largeFrame) d 0 xs 5 out next → 5 ≤ n → n ≤ length d → n ≤ largeFrame → Wrote d 0 xs 5 out next
+headed {n = n} w some room small = w .fits (rw (le-leb 5 n some, le-leb n largeFrame small) refl) (omega arith)

@@ -12,10 +12,11 @@ ghost use lib.ListN.{drop, length, take};
 ghost use Rattle.protocol.specs.Bytes.{be, bitsOf, noZero};
 ghost use Rattle.protocol.specs.Encode.{items};
 ghost use Rattle.protocol.specs.Fields.{bytes, itemsBytes};
-ghost use Rattle.protocol.specs.Kinds.{format, formats, oid, oids, typed};
+ghost use Rattle.protocol.specs.Kinds.{format, formats, largeFrame, oid, oids, typed};
 ghost use Rattle.protocol.specs.WellFormed.{header};
 ghost use Rattle.pen.specs.Writing.{Put, Wrote, verdictOf};
 use protocol::Encoded;
+use protocol::kinds::LARGE_FRAME;
 use protocol::refusal::LENGTH_ABOVE_LIMIT;
 use protocol::refusal::NOT_REPRESENTABLE;
 use protocol::refusal::OUTPUT_TOO_SHORT;
@@ -300,7 +301,7 @@ pub fn verdict(able: bool, limit: u32, size: usize, room: usize) -> Encoded
 
 // The type byte and the length word of a frame of n bytes, at the output's start.
 fn store_head(out: &mut [u8], type_byte: u8, n: usize) -> usize
-    requires { ⌜ (5 ≤ length (now out)) × (5 ≤ n) × (n ≤ 1048577) ⌝ }
+    requires { ⌜ (5 ≤ length (now out)) × (5 ≤ n) × (n ≤ largeFrame) ⌝ }
     ensures { λ r. ⌜ Wrote (now (out .entry)) 0 (header typed «type_byte» (n - 5)) 5 (now (out .exit)) r ⌝ }
 {
     let at = store_byte(out, 0, type_byte);
@@ -404,9 +405,9 @@ pub fn put_formats(out: &mut [u8], at: usize, xs: &[i16]) -> usize
 
 // No frame is below 5 bytes or above the largest limit.
 pub fn put_head(out: &mut [u8], type_byte: u8, n: usize) -> usize
-    ensures { λ r. ⌜ Put (leb 5 n && leb n 1048577) (now (out .entry)) 0 (header typed «type_byte» (n - 5)) 5 (now (out .exit)) r ⌝ }
+    ensures { λ r. ⌜ Put (leb 5 n && leb n largeFrame) (now (out .entry)) 0 (header typed «type_byte» (n - 5)) 5 (now (out .exit)) r ⌝ }
 {
-    if room((5 <= n) & (n <= 1048577), out.len(), 0, 5) {
+    if room((5 <= n) & (n <= LARGE_FRAME), out.len(), 0, 5) {
         return store_head(out, type_byte, n);
     }
     0

@@ -1,4 +1,4 @@
--- Of each case of an answer: whether it is need-more, document 01's refusal number and place (0 and 0 where nothing is refused), the
+-- Of each case of an answer: whether it is need-more, the refusal's number and place (docs/FORMAT.md 6; 0 and 0 where nothing is refused), the
 -- bytes consumed or written (0 for a refusal and for need-more), and what is handed back (none for a refusal and for need-more).
 use Prim.Native.Nat.{ℕ}
 use mathlib.Core.Bool.{Bool, true, false}

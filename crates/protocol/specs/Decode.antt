@@ -1,4 +1,4 @@
--- Decoding: the header's checks in document 01's order, then the body from left to right.
+-- Decoding: the header's checks in their order, then the body from left to right (docs/FORMAT.md 3).
 use Prim.Native.Nat.{ℕ, _+_}
 use mathlib.Core.Bool.{cond}
 use mathlib.Core.List.{List}

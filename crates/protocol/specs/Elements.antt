@@ -1,4 +1,4 @@
--- Elements: which lists a kind has, and what an element call answers.
+-- Elements (docs/FORMAT.md 8): which lists a kind has, and what an element call answers.
 use Prim.Native.Nat.{ℕ, zero, suc}
 use mathlib.Core.Bool.{cond}
 use mathlib.Core.List.{List, [], _∷_}

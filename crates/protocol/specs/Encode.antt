@@ -1,4 +1,4 @@
--- Encoding: which content an encoder's arguments are, what the encoder answers, and what the output then holds.
+-- Encoding (docs/FORMAT.md 9): which content an encoder's arguments are, what the encoder answers, and what the output then holds.
 use Prim.Native.Nat.{ℕ, zero, suc, _+_}
 use mathlib.Core.Bool.{cond}
 use mathlib.Core.List.{List, [], _∷_, map}

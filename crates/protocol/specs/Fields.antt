@@ -1,6 +1,6 @@
--- The sorts of field. A body is a list of fields from left to right. A field is an atom, one thing on the wire, or a list of
+-- The sorts of field (docs/FORMAT.md 1). A body is a list of fields from left to right. A field is an atom, one thing on the wire, or a list of
 -- items, each of which is a list of atoms. For each sort: what it means (content), that a content is in its
--- type's range (InRange) and can be written (able), its bytes, what a record holds of it (slot), and how many bytes it needs at least.
+-- type's range (InRange) and can be written (able), its bytes, what a record holds of it (slot, docs/FORMAT.md 7), and how many bytes it needs at least.
 use Prim.Native.Nat.{ℕ, _+_, _/_, _<_, _^_}
 use mathlib.Core.Bool.{Bool, true, false, not, _&&_}
 use mathlib.Core.List.{List, [], _∷_, _++_}
@@ -177,7 +177,7 @@ InRange (one a) c = AtomInRange a c
 InRange (counted k i) cs = ItemsInRange i cs
 InRange (ended i) cs = ItemsInRange i cs
 
--- document 01's cases of refusal 10: false where a content cannot be written
+-- the cases of refusal 10 (docs/FORMAT.md 9): false where a content cannot be written
 unfoldable pub able : Rules → (x : Field) → Content x → Bool
 able rules (one a) c = atomAble rules a c
 able rules (counted k i) cs = leb (length cs) (most k) && itemsAble rules i cs

@@ -1,6 +1,6 @@
--- Document 01's tables: for each kind its type byte, smallest length, limit and body, and under that its record.
+-- The tables of kinds (docs/FORMAT.md 2 and 4): for each kind its type byte, smallest length, limit and body, and under that its record.
 use Prim.Native.Char.{Char, code}
-use Prim.Native.Nat.{ℕ}
+use Prim.Native.Nat.{ℕ, _+_}
 use mathlib.Core.Bool.{cond}
 use mathlib.Core.List.{List, [], _∷_}
 use mathlib.Core.Logic.{_⊎_}
@@ -43,6 +43,13 @@ large = 1048576
 
 abbrev pub small : ℕ
 small = 8192
+
+-- the bytes of the longest frame with each limit: a type byte is not counted by the length
+abbrev pub largeFrame : ℕ
+largeFrame = 1 + large
+
+abbrev pub smallFrame : ℕ
+smallFrame = 1 + small
 
 abbrev pub string : Field
 string = one text

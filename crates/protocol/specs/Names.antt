@@ -1,4 +1,4 @@
--- The name of each kind: the Rust's type name.
+-- The name of each kind (docs/FORMAT.md 4): the Rust's type name.
 use Prim.Native.Char.{code}
 use Prim.Native.Nat.{ℕ}
 use Prim.Native.String.{String, [] as end, _∷_ as _then_}

@@ -1,4 +1,4 @@
--- Reading at a place of a frame, from left to right. The frame is the list of its bytes, so nothing past its end can be read.
+-- Reading at a place of a frame, from left to right (docs/FORMAT.md 5). The frame is the list of its bytes, so nothing past its end can be read.
 use Prim.Native.Nat.{ℕ, zero, suc, _+_, _-_, _*_}
 use mathlib.Core.Bool.{cond}
 use mathlib.Core.List.{List, [], _∷_}

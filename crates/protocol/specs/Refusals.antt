@@ -1,4 +1,4 @@
--- The refusal numbers of document 01.
+-- The refusals' numbers (docs/FORMAT.md 6).
 use Prim.Native.Nat.{ℕ}
 
 abbrev pub modeUnknown : ℕ

@@ -1,4 +1,4 @@
--- Frame after frame: what stands at a place of a buffer, and all the frames from there on with the end that follows them.
+-- Frame after frame (docs/FORMAT.md 10): what stands at a place of a buffer, and all the frames from there on with the end that follows them.
 use Prim.Native.Nat.{ℕ, zero, suc, _+_}
 use mathlib.Core.Bool.{cond}
 use mathlib.Core.List.{List, [], _∷_}

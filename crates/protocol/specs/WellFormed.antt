@@ -1,4 +1,4 @@
--- The well-formed frames: what there is to say of a frame without reading one.
+-- The well-formed frames (docs/FORMAT.md 3 and 4): what there is to say of a frame without reading one.
 use Prim.Native.Nat.{ℕ, _+_, _≤_}
 use mathlib.Core.Bool.{Bool, true}
 use mathlib.Core.List.{List, [], _∷_, _++_}

@@ -1,4 +1,5 @@
-// The smallest length and the limit of each kind, laid out as in document 01. No other code writes a limit.
+// The smallest length and the limit of each kind, laid out as in docs/FORMAT.md 4. No other code writes a limit: it takes these names, and a contract
+// those of specs/Kinds.
 ghost use mathlib.Core.Path.{_≡_};
 ghost use Rattle.protocol.specs.Kinds.{backend, boundsBy, boundsOf, cancel, frontend, gssAnswer, kindIn, tlsAnswer};
 use crate::Rules;
@@ -13,6 +14,9 @@ use crate::response::SslResponse;
 pub const LARGE: u32 = 1048576;
 
 pub const SMALL: u32 = 8192;
+
+// The bytes of the longest typed frame of all: a type byte is not counted by the length.
+pub const LARGE_FRAME: usize = LARGE as usize + 1;
 
 // A kind's smallest length and its limit, or that there is no such kind.
 pub enum Bounds {

@@ -1,4 +1,4 @@
-// The refusal numbers of document 01.
+// The refusals' numbers (docs/FORMAT.md 6).
 
 // The mode is none of 0 to 4.
 pub const MODE_UNKNOWN: u8 = 1;

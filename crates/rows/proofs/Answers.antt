@@ -6,6 +6,7 @@ use native.Mathlib.Omega.{arith}
 use borrow.Author.Tests.{leb-true}
 use lib.Dec.{leb, ltb}
 use Rattle.protocol.specs.declared.Encoded.the-variants as N
+use Rattle.protocol.specs.Kinds.{largeFrame}
 use Rattle.pen.specs.Writing.{verdictOf}
 use Rattle.pen.proofs.Encoding.{room-by}
 use Rattle.pen.proofs.Lists.{and-left}
@@ -16,7 +17,7 @@ use Rattle.rows.specs.Passes.{answered}
 pub record Roomy (c : Pen) (count room n : ℕ) : Type 0 where
   pub few : count ≤ 32767
   pub whole : n ≡ c .at + 7
-  pub small : n ≤ 1048577
+  pub small : n ≤ largeFrame
   pub fits : n ≤ room
 
 pub roomy-of : (c : Pen) (count room n : ℕ) → answered c count room ≡ N.Done n → Roomy c count room n

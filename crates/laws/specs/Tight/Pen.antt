@@ -9,7 +9,7 @@ use lib.ListN.{length}
 use Rattle.protocol.specs.Bytes.{be, bitsOf, noZero}
 use Rattle.protocol.specs.Encode.{errorFieldsGiven, items, valuesGiven}
 use Rattle.protocol.specs.Fields.{bytes}
-use Rattle.protocol.specs.Kinds.{formats, oids, typed}
+use Rattle.protocol.specs.Kinds.{formats, largeFrame, oids, typed}
 use Rattle.protocol.specs.WellFormed.{header}
 use Rattle.protocol.specs.declared.Encoded.{Encoded}
 use Rattle.pen.specs.Given.{isSome, sizeOf}
@@ -34,6 +34,6 @@ pub record PenTight : Type 0 where
   pub «put_pairs» : (out : List ℕ) (at a b c d e f : ℕ) → DeterminesBoth (λ (r : ℕ) (out′ : List ℕ). Put true out at (be 4 a ++ (be 2 b ++ (be 4 c ++ (be 2 d ++ (be 4 e ++ (be 2 f ++ [])))))) 18 out′ r)
   pub «put_oids» : (out : List ℕ) (at : ℕ) (xs : List ℕ) → DeterminesBoth (λ (r : ℕ) (out′ : List ℕ). Put (leb (length xs) 32767) out at (bytes oids (items xs)) (2 + 4 * length xs) out′ r)
   pub «put_formats» : (out : List ℕ) (at : ℕ) (xs : List ℤ) → DeterminesBoth (λ (r : ℕ) (out′ : List ℕ). Put (leb (length xs) 32767) out at (bytes formats (items xs)) (2 + 2 * length xs) out′ r)
-  pub «put_head» : (out : List ℕ) («type_byte» : ℕ) (n : ℕ) → DeterminesBoth (λ (r : ℕ) (out′ : List ℕ). Put (leb 5 n && leb n 1048577) out 0 (header typed «type_byte» (n - 5)) 5 out′ r)
+  pub «put_head» : (out : List ℕ) («type_byte» : ℕ) (n : ℕ) → DeterminesBoth (λ (r : ℕ) (out′ : List ℕ). Put (leb 5 n && leb n largeFrame) out 0 (header typed «type_byte» (n - 5)) 5 out′ r)
   pub «size_of» : (n : ℤ) → Determines (λ (r : ℕ). r ≡ sizeOf n)
   pub «values_given» : (lengths : List ℤ) (joined : List ℕ) → Determines (λ (r : Bool). r ≡ isSome (valuesGiven lengths joined))

@@ -2,6 +2,7 @@
 use mathlib.Core.Bool.{_&&_}
 use borrow.Author.Needs.{needs}
 use borrow.Author.Tests.{leb-true}
+use Rattle.protocol.specs.Kinds.{largeFrame}
 use Rattle.pen.proofs.Lists.{and-left, and-right}
 use lib.Dec.{leb}
 use Rattle.pen.proofs.Puts.{has-room, put, kept}
@@ -11,7 +12,7 @@ use Rattle.pen.proofs.put_head.Tie as tie
 requires : tie.Need-store-head-requires
 requires c κs =
     let a = c .before .before .before .before .args in
-    let h = has-room (leb 5 (a .n) && leb (a .n) 1048577) 0 5 (c .before .before .room .ensures) (c .before .if1 .taken) in
+    let h = has-room (leb 5 (a .n) && leb (a .n) largeFrame) 0 5 (c .before .before .room .ensures) (c .before .if1 .taken) in
     (h .1, leb-true _ _ (and-left _ _ (h .0)), leb-true _ _ (and-right (leb 5 (a .n)) (h .0)))
 
 returns : tie.Need-returns
