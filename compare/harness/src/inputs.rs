@@ -199,7 +199,7 @@ pub fn spoiled(r: &mut Rng, c: &Content) -> Content {
             let at = r.below(t.len() + 1);
             t.insert(at, 0);
         }
-        Field::Num(b) if matches!(c.kind, 3 | 4) => *b = r.below(256) as i64,
+        Field::Num(b) if matches!(c.kind, 3 | 4 | 21) => *b = r.below(256) as i64,
         Field::Rows(rows) if !rows.is_empty() => rows[0].name.push(0),
         Field::Errors(es) if !es.is_empty() && r.one_in(2) => es[0].0 = 0,
         Field::Errors(es) if !es.is_empty() => es[0].1.insert(0, 0),

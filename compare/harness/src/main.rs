@@ -228,7 +228,7 @@ impl Run {
                 }
             }
         } else {
-            *self.written.entry("text").or_default() += 1;
+            *self.written.entry("cannot be given to the Rust").or_default() += 1;
         }
         self.encode_ours(&g);
     }
