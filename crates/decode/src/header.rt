@@ -1,4 +1,5 @@
 // A frame's header: its checks, in the order of docs/FORMAT.md 3.
+// Inner: for crates of this library alone (docs/CONTRACTS.md, "Inner functions").
 ghost use mathlib.Core.Path.{_≡_};
 ghost use lib.ListN.{length};
 ghost use Rattle.protocol.specs.Bytes.{signedOf};

@@ -1,4 +1,5 @@
 // The choice by kind: a frame's own type byte tells its decoder.
+// Inner: for crates of this library alone (docs/CONTRACTS.md, "Inner functions").
 ghost use mathlib.Core.Path.{_≡_};
 ghost use Rattle.protocol.specs.Kinds as K;
 ghost use Rattle.protocol.specs.Kinds.{kindIn};

@@ -1,3 +1,4 @@
 // The items of lists that are walked, and the lists of them. What a kind's decoder reads of an item, an element call reads too.
+// Inner: for crates of this library alone (docs/CONTRACTS.md, "Inner functions").
 pub mod data;
 pub mod response;
