@@ -1,8 +1,10 @@
 // A case's call, and the rest of its line.
 use crate::SPARE;
+use crate::boundary;
 use crate::case;
 use crate::case::Case;
 use crate::case::ROOM;
+use crate::direct;
 use crate::long;
 use crate::text::write;
 use crate::text::write_answer;
@@ -24,14 +26,6 @@ fn field(start: usize, len: usize) -> FieldDescription {
     }
 }
 
-// What the boundary's number says. It leaves out a refusal's place, which is always 0.
-fn encoded(answer: usize) -> Encoded {
-    if answer < 18446744073709551360 {
-        return Encoded::Done(answer);
-    }
-    Encoded::Refused((18446744073709551615 - answer) as u8, 0)
-}
-
 // The first numbers; none, where there are not so many.
 fn first_words(words: &[u32], count: usize) -> &[u32] {
     if words.len() < count {
@@ -40,7 +34,7 @@ fn first_words(words: &[u32], count: usize) -> &[u32] {
     &words[0..count]
 }
 
-pub fn first_numbers(numbers: &[i32], count: usize) -> &[i32] {
+fn first_numbers(numbers: &[i32], count: usize) -> &[i32] {
     if numbers.len() < count {
         return &numbers[0..0];
     }
@@ -63,20 +57,67 @@ fn row_description(case: Case, run: &[u8], out: &mut [u8]) -> Encoded {
     encode::data::row_description_of_two([first, second], run, out)
 }
 
-fn plain(case: Case, one: &[u8], two: &[u8], out: &mut [u8]) -> usize {
-    host::encoding::tusweram_encode(
-        case.kind,
-        case.byte,
-        case.numbers[0],
-        case.numbers[1],
+fn plain(
+    by_boundary: bool,
+    kind: usize,
+    byte: u8,
+    first: i32,
+    second: i32,
+    one: &[u8],
+    two: &[u8],
+    out: &mut [u8],
+) -> Encoded {
+    if by_boundary {
+        return boundary::plain(kind, byte, first, second, one, two, out);
+    }
+    direct::plain(kind, byte, first, second, one, two, out)
+}
+
+fn listed(
+    by_boundary: bool,
+    kind: usize,
+    format: i8,
+    one: &[u8],
+    two: &[u8],
+    joined: &[u8],
+    words: &[u32],
+    lengths: &[i32],
+    formats: &[i16],
+    results: &[i16],
+    out: &mut [u8],
+) -> Encoded {
+    if by_boundary {
+        return boundary::listed(
+            kind,
+            format,
+            one,
+            two,
+            joined,
+            words,
+            lengths,
+            formats,
+            results,
+            out,
+        );
+    }
+    direct::listed(
+        kind,
+        format,
         one,
         two,
+        joined,
+        words,
+        lengths,
+        formats,
+        results,
         out,
     )
 }
 
-// The case's call, with so much of the arrays as it says.
+// The case's call, with so much of the arrays as it says: of its encoder, or of the boundary's function. That one takes a row's fields as a
+// slice, which would be walked by hand here, so a row goes to its encoder both times.
 pub fn call<'a>(
+    by_boundary: bool,
     case: Case,
     bytes: &'a [u8],
     words: &'a [u32],
@@ -85,16 +126,20 @@ pub fn call<'a>(
     results: &'a [i16],
     out: &mut [u8],
 ) -> Encoded {
+    let kind = case.kind;
     let one = decode::part(bytes, 0, case.one_len);
     let two = decode::part(bytes, 64, case.two_len);
-    if case.kind == case::ROW_DESCRIPTION {
+    if kind == case::ROW_DESCRIPTION {
         return row_description(case, one, out);
     }
-    if !case::has_list(case.kind) {
-        return encoded(plain(case, one, two, out));
+    if !case::has_list(kind) {
+        let first = case.numbers[0];
+        let second = case.numbers[1];
+        return plain(by_boundary, kind, case.byte, first, second, one, two, out);
     }
-    encoded(host::encoding::tusweram_encode_lists(
-        case.kind,
+    listed(
+        by_boundary,
+        kind,
         codec::signed8(case.byte),
         one,
         two,
@@ -104,12 +149,16 @@ pub fn call<'a>(
         first_formats(formats, case.format_count),
         first_formats(results, case.result_count),
         out,
-    ))
+    )
 }
 
-fn short_call(case: Case, out: &mut [u8]) -> Encoded {
+fn encode_in(by_boundary: bool, case: Case, out: &mut [u8]) -> Encoded {
     let given = case;
+    if (case.kind != case::ROW_DESCRIPTION) & (case.size_count == 4) {
+        return long::call(by_boundary, case, out);
+    }
     call(
+        by_boundary,
         case,
         &given.bytes,
         &given.words,
@@ -120,16 +169,14 @@ fn short_call(case: Case, out: &mut [u8]) -> Encoded {
     )
 }
 
-fn encode_in(case: Case, out: &mut [u8]) -> Encoded {
-    if (case.kind != case::ROW_DESCRIPTION) & (case.size_count == 4) {
-        return long::call(case, out);
-    }
-    short_call(case, out)
-}
-
-fn answer_in(case: Case, out: &mut [u8]) {
-    let encoded = encode_in(case, out);
+// The encoder's answer, and its output after the call. The boundary's, in an output of its own, are the same.
+fn answer_in(case: Case, out: &mut [u8], other: &mut [u8]) {
+    let encoded = encode_in(false, case, out);
+    let again = encode_in(true, case, other);
     write_answer(encoded, out);
+    if !boundary::is_same(encoded, out, again, other) {
+        write(b" WRONG at the boundary");
+    }
 }
 
 pub fn answer(case: Case) {
@@ -140,7 +187,8 @@ pub fn answer(case: Case) {
     if room <= ROOM {
         if case::is_whole(case) {
             let mut out = long::full(SPARE);
-            answer_in(case, &mut out[0..room]);
+            let mut other = long::full(SPARE);
+            answer_in(case, &mut out[0..room], &mut other[0..room]);
             return;
         }
     }

@@ -101,6 +101,11 @@ pub fn has_list(kind: usize) -> bool {
     (kind < 3) | ((17 < kind) & (kind < 20)) | ((21 < kind) & (kind < 27))
 }
 
+// ErrorResponse and NoticeResponse, whose codes are the section ONE.
+pub fn is_error(kind: usize) -> bool {
+    (kind == 22) | (kind == 23)
+}
+
 // Whether a byte is given so often, and nothing else but the section BYTE.
 fn is_repeated(case: Case) -> bool {
     let most = (case.len <= MANY) | (!has_list(case.kind) & (case.len <= ROOM));

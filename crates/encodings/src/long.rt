@@ -21,34 +21,50 @@ fn full_words(word: u32) -> [u32; MANY]
     [word; MANY]
 }
 
+fn full_numbers(number: i32) -> [i32; MANY]
+    ensures { λ r. ⌜ 32768 ≡ length r ⌝ }
+{
+    [number; MANY]
+}
+
 fn full_formats(format: i16) -> [i16; MANY]
     ensures { λ r. ⌜ 32768 ≡ length r ⌝ }
 {
     [format; MANY]
 }
 
-// So many words and formats, or, where the kind has no list, bytes.
+fn times(a: u32, b: u32) -> usize {
+    a as usize * b as usize
+}
+
+// So many words, lengths and formats, with the joined bytes that the lengths add up to, and an error's codes; or, where the kind has no list,
+// bytes.
 fn counted(mut case: Case) -> Case {
+    let len = case.len;
     if case::has_list(case.kind) {
-        case.number_count = case.len;
-        case.format_count = case.len;
-        return case;
+        case.number_count = len;
+        case.format_count = len;
+        case.joined_len = times((case.start % 256) as u32, (len % 65536) as u32);
     }
-    case.one_len = case.len;
+    if !case::has_list(case.kind) | case::is_error(case.kind) {
+        case.one_len = len;
+    }
     case
 }
 
-pub fn call(case: Case, out: &mut [u8]) -> Encoded {
+pub fn call(by_boundary: bool, case: Case, out: &mut [u8]) -> Encoded {
     let byte = (case.start % 256) as u8;
     let given = case;
     let bytes = full(byte);
     let words = full_words(byte as u32);
+    let numbers = full_numbers(byte as i32);
     let formats = full_formats(codec::signed16(byte as u16));
     calls::call(
+        by_boundary,
         counted(case),
         &bytes,
         &words,
-        calls::first_numbers(&given.numbers, 0),
+        &numbers,
         &formats,
         &given.results,
         out,

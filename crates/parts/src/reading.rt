@@ -20,12 +20,12 @@ fn value_numbers(value: Value, at: usize) -> [usize; 16]
     }
 }
 
-// The value at a place of a frame, as reader::value_from answers it, with the next place.
+// The value at a place of a frame, as reader::value_at answers it, with the next place.
 #[no_mangle]
 pub extern "C" fn tusweram_value(frame: &[u8], at: usize, out: &mut [usize; 16])
     ensures { λ _. ⌜ now (out .exit) ≡ valueOut (readValue (now (frame .entry)) at) ⌝ }
 {
-    *out = value_numbers(reader::value_from(frame, at), at);
+    *out = value_numbers(reader::value_at(frame, at), at);
 }
 
 fn row_numbers(row: Row) -> [usize; 16]

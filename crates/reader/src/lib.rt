@@ -96,12 +96,3 @@ pub fn value<'a>(r: FrameReader<'a>) -> Value
 {
     value_at(r.frame, r.at)
 }
-
-// ---- for callers that have no reader
-
-// The value at a place of a frame, by a reader made for it: what calls this needs no walk by hand.
-pub fn value_from(frame: &[u8], at: usize) -> Value
-    ensures { λ s. ⌜ valueRead at s ≡ readValue (now (frame .entry)) at ⌝ }
-{
-    value(to(new(frame), at))
-}

@@ -5,7 +5,7 @@ ghost use lib.ListN.{length};
 ghost use Rattle.protocol.specs.Decode.{decodeOf};
 ghost use Rattle.protocol.specs.Reading.{readValue};
 ghost use Rattle.reader.specs.Row.{ReadsRow, entryOf, lengthWord, lengthsOf, over, placesFrom, rowBy, rowFits, rowIn, startsOf};
-use super::value_from;
+use super::value_at;
 use codec::Value;
 use decode::decode;
 use protocol::Decoded;
@@ -36,7 +36,7 @@ fn signed_length(n: usize) -> i32
 fn entry_at(frame: &[u8], at: usize) -> Entry
     ensures { λ r. ⌜ r ≡ entryOf (readValue (now (frame .entry)) at) ⌝ }
 {
-    match value_from(frame, at) {
+    match value_at(frame, at) {
         Value::Is(part, next) => Entry::Is(part.start, signed_length(part.len), next.at),
         Value::Null(next) => Entry::Is(0, -1, next.at),
         Value::Cut => Entry::Stop,

@@ -6,7 +6,7 @@ use Rattle.parts.proofs.reading.tusweram_value.Statement.{statement}
 use Rattle.parts.proofs.reading.tusweram_value.Tie as tie
 
 returns : tie.Need-returns
-returns c = c .value-numbers .ensures ∙ ap valueOut (c .before .value-from .ensures)
+returns c = c .value-numbers .ensures ∙ ap valueOut (c .before .value-at .ensures)
 
 pub tusweram-value-spec : {M : Type 1} → statement M
 tusweram-value-spec = tie.close (tie.spec (λ c κs. search needs) (λ c κs. search needs) returns)
