@@ -405,7 +405,6 @@ reader = record {
   word = λ _ r s p q. back-one (wordRead _) word-back (word-again _) r s (p ∙ sym q);
   string = λ _ r s p q. back-one (textRead _) text-back (text-again _) r s (p ∙ sym q);
   value = λ _ r s p q. back-one (valueRead _) value-back (value-again _) r s (p ∙ sym q);
-  «value_from» = λ _ _ r s p q. back-one (valueRead _) value-back (value-again _) r s (p ∙ sym q);
   «data_row» = λ _ _ _ r s x y u v p q. row-one p q;
 }
 

@@ -29,5 +29,4 @@ pub record ReaderTight : Type 0 where
   pub word : (r : FrameReader) → Determines (λ (s : Word). wordRead (r .at) s ≡ readNumber 4 (now (r .frame)) (r .at))
   pub string : (r : FrameReader) → Determines (λ (s : Text). textRead (r .at) s ≡ readText (now (r .frame)) (r .at))
   pub value : (r : FrameReader) → Determines (λ (s : Value). valueRead (r .at) s ≡ readValue (now (r .frame)) (r .at))
-  pub «value_from» : (frame : List ℕ) (at : ℕ) → Determines (λ (s : Value). valueRead at s ≡ readValue frame at)
   pub «data_row» : (buf : List ℕ) (starts : List ℕ) (lengths : List ℤ) → DeterminesAll (λ (r : Row) (starts′ : List ℕ) (lengths′ : List ℤ). ReadsRow buf starts lengths r starts′ lengths′)

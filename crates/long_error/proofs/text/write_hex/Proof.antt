@@ -1,0 +1,30 @@
+-- `long_error::text::write_hex` is safe and ends.
+use Prim.Native.Nat.{_-_}
+use borrow.Author.Needs.{needs}
+use Rattle.long_error.proofs.text.write_hex.Statement.{statement}
+use Rattle.long_error.proofs.text.write_hex.Tie as tie
+
+abbrev Inv-loop : tie.InvT-loop
+Inv-loop bytes i₀ t3 t4 i-end i = Unit {0}
+
+abbrev μ-loop : tie.MeasureT-loop
+μ-loop bytes i₀ t3 t4 i-end i = i-end - i
+
+pub write-hex-spec : {M : Type 1} → statement M
+write-hex-spec =
+    tie.close
+    (tie.spec
+    Inv-loop
+    μ-loop
+    (λ c. search needs)
+    (λ c. search needs)
+    (λ c κs. search needs)
+    (λ c. search needs)
+    (λ c κs. search needs)
+    (λ c κs. search needs)
+    (λ c. search needs)
+    (λ c. search needs)
+    (λ c. search needs)
+    (λ c. search needs)
+    (λ c κs. search needs)
+    (λ c. search needs))
