@@ -2,7 +2,6 @@
 ghost use Prim.Native.Nat.{_<_, _≤_};
 use crate::hex;
 use crate::hex::ROOM;
-use crate::text;
 use protocol::Decoded;
 
 // What decode answers of a frame of so many bytes. A whole record has consumed them all.
@@ -54,27 +53,27 @@ fn is_same(a: Verdict, b: Verdict) -> bool {
 
 fn write_verdict(verdict: Verdict) {
     match verdict {
-        Verdict::Whole => text::write(b" ok"),
+        Verdict::Whole => cases::write(b" ok"),
         Verdict::Strange(consumed) => {
-            text::write(b" WRONG consumed ");
-            text::write_number(consumed);
+            cases::write(b" WRONG consumed ");
+            cases::write_number(consumed);
         }
-        Verdict::NeedMore => text::write(b" need-more"),
+        Verdict::NeedMore => cases::write(b" need-more"),
         Verdict::Refused(number, place) => {
-            text::write(b" ");
-            text::write_number(number as usize);
-            text::write(b"@");
-            text::write_number(place);
+            cases::write(b" ");
+            cases::write_number(number as usize);
+            cases::write(b"@");
+            cases::write_number(place);
         }
     }
 }
 
 // The totals from `first` to `last` have one verdict.
 fn write_run(first: usize, last: usize, verdict: Verdict) {
-    text::write_number(first);
+    cases::write_number(first);
     if first < last {
-        text::write(b"-");
-        text::write_number(last);
+        cases::write(b"-");
+        cases::write_number(last);
     }
     write_verdict(verdict);
 }
@@ -121,7 +120,7 @@ fn write_runs(mode: u8, frame: [u8; ROOM], first: usize, last: usize)
         let verdict = verdict_at(mode, frame, total);
         if !is_same(run_verdict, verdict) {
             write_run(run_start, total - 1, run_verdict);
-            text::write(b", ");
+            cases::write(b", ");
             run_start = total;
             run_verdict = verdict;
         }
@@ -132,13 +131,13 @@ fn write_runs(mode: u8, frame: [u8; ROOM], first: usize, last: usize)
 // From the header alone to one byte more than the frame has: behind the bytes that were given stand zeros.
 pub fn write_cuts(mode: u8, frame: [u8; ROOM], count: usize) {
     if ROOM <= count {
-        text::write(b"no room for one byte more");
+        cases::write(b"no room for one byte more");
         return;
     }
     match mode {
         0 => write_runs(mode, frame, 5, count + 1),
         1 => write_runs(mode, frame, 5, count + 1),
         2 => write_runs(mode, frame, 8, count + 1),
-        _ => text::write(b"no length to mend"),
+        _ => cases::write(b"no length to mend"),
     }
 }

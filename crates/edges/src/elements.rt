@@ -2,7 +2,6 @@
 use crate::hex;
 use crate::hex::ROOM;
 use crate::record;
-use crate::text;
 use protocol::Element;
 use protocol::data::FieldDescription;
 
@@ -17,8 +16,8 @@ fn write_field(field: FieldDescription) {
     record::write_span(b"Field name ", field.name);
     record::write_signed(b" table_id ", field.table_id);
     write_short(b" column_id ", field.column_id);
-    text::write(b" type_id ");
-    text::write_number(field.type_id as usize);
+    cases::write(b" type_id ");
+    cases::write_number(field.type_id as usize);
     write_short(b" type_size ", field.type_size);
     record::write_signed(b" type_modifier ", field.type_modifier);
     write_short(b" format_code ", field.format_code);
@@ -27,19 +26,19 @@ fn write_field(field: FieldDescription) {
 fn write_element(element: Element) {
     match element {
         Element::Oid(oid) => {
-            text::write(b"Oid ");
-            text::write_number(oid as usize);
+            cases::write(b"Oid ");
+            cases::write_number(oid as usize);
         }
         Element::Format(format) => write_short(b"Format ", format),
-        Element::Null => text::write(b"Null"),
+        Element::Null => cases::write(b"Null"),
         Element::Value(value) => record::write_span(b"Value ", value),
         Element::Field(field) => write_field(field),
         Element::ErrorField(code, string) => {
             record::write_letter(b"ErrorField ", code);
             record::write_span(b" ", string);
         }
-        Element::NeedMore => text::write(b"need-more"),
-        Element::Refused(number, place) => record::write_refused(number, place),
+        Element::NeedMore => cases::write(b"need-more"),
+        Element::Refused(number, place) => cases::write_refused(number, place),
     }
 }
 
@@ -60,7 +59,7 @@ pub fn write_list(mode: u8, buf: &[u8], list: usize) {
         if is_last(element) {
             return;
         }
-        text::write(b", ");
+        cases::write(b", ");
         number += 1;
     }
 }
@@ -69,13 +68,13 @@ pub fn write_list(mode: u8, buf: &[u8], list: usize) {
 pub fn write_values(mode: u8, buf: &[u8], list: usize) {
     let mut number: usize = 0;
     while number < ROOM {
-        text::write(b"<");
-        text::write(element::value_or(mode, buf, list, number, &STAND_IN));
-        text::write(b">");
+        cases::write(b"<");
+        cases::write(element::value_or(mode, buf, list, number, &STAND_IN));
+        cases::write(b">");
         if is_last(element::element(mode, buf, list, number)) {
             return;
         }
-        text::write(b" ");
+        cases::write(b" ");
         number += 1;
     }
 }
@@ -83,6 +82,6 @@ pub fn write_values(mode: u8, buf: &[u8], list: usize) {
 // The largest numbers that a call can name.
 pub fn write_far(mode: u8, buf: &[u8], list: usize) {
     write_element(element::element(mode, buf, list, 18446744073709551615));
-    text::write(b", ");
+    cases::write(b", ");
     write_element(element::element(mode, buf, 18446744073709551615, 0));
 }

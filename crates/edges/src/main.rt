@@ -1,29 +1,10 @@
 // The edges of the format, run: each line of the input is a case in text, and is written back with what decode or an element call answers.
-ghost use Prim.Native.Nat.{_≤_};
-ghost use lib.ListN.{length};
-
 mod cuts;
 mod elements;
 mod hex;
 mod record;
-mod text;
 
 use libc::STDIN_FILENO;
-
-// Where the line that begins at `start` ends.
-fn line_end(input: &[u8], start: usize) -> usize
-    requires { ⌜ start ≤ length (now input) ⌝ }
-    ensures { λ r. ⌜ (start ≤ r) × (r ≤ length (now (input .entry))) ⌝ }
-{
-    let mut end = start;
-    while end < input.len() {
-        if input[end] == b'\n' {
-            return end;
-        }
-        end += 1;
-    }
-    end
-}
 
 // A case: the frame as it is given.
 fn answer_whole(line: &[u8]) {
@@ -32,7 +13,7 @@ fn answer_whole(line: &[u8]) {
         hex::Case::Of(mode, count) => {
             record::write_decoded(decode::decode(mode, hex::first(&frame, count)))
         }
-        hex::Case::Malformed => text::write(b"malformed case"),
+        hex::Case::Malformed => cases::write(b"malformed case"),
     }
 }
 
@@ -40,13 +21,13 @@ fn answer_whole(line: &[u8]) {
 fn answer_cuts(line: &[u8]) {
     let start: usize = 5;
     if line.len() < start {
-        text::write(b"malformed case");
+        cases::write(b"malformed case");
         return;
     }
     let mut frame = [0u8; hex::ROOM];
     match hex::read_case(&line[start..], &mut frame) {
         hex::Case::Of(mode, count) => cuts::write_cuts(mode, frame, count),
-        hex::Case::Malformed => text::write(b"malformed case"),
+        hex::Case::Malformed => cases::write(b"malformed case"),
     }
 }
 
@@ -54,10 +35,10 @@ fn answer_cuts(line: &[u8]) {
 fn answer_elements(line: &[u8]) {
     let start: usize = 7;
     if line.len() < start {
-        text::write(b"malformed case");
+        cases::write(b"malformed case");
         return;
     }
-    let list = hex::digit(line[5]) as usize;
+    let list = cases::digit(line[5]) as usize;
     let mut frame = [0u8; hex::ROOM];
     match hex::read_case(&line[start..], &mut frame) {
         hex::Case::Of(mode, count) => {
@@ -68,36 +49,36 @@ fn answer_elements(line: &[u8]) {
                 _ => elements::write_far(mode, buf, list),
             }
         }
-        hex::Case::Malformed => text::write(b"malformed case"),
+        hex::Case::Malformed => cases::write(b"malformed case"),
     }
 }
 
 // Every line is written back; what is no comment, with its answer.
 fn answer_line(line: &[u8]) {
-    text::write(line);
+    cases::write(line);
     let kind = if line.len() == 0 { 0 } else { line[0] };
     match kind {
         b'#' => {}
         b'c' => {
-            text::write(b" = ");
+            cases::write(b" = ");
             answer_cuts(line);
         }
         b'l' | b'v' | b'p' => {
-            text::write(b" = ");
+            cases::write(b" = ");
             answer_elements(line);
         }
         _ => {
-            text::write(b" = ");
+            cases::write(b" = ");
             answer_whole(line);
         }
     }
-    text::write(b"\n");
+    cases::write(b"\n");
 }
 
 fn answer_lines(input: &[u8]) {
     let mut start: usize = 0;
     while start < input.len() {
-        let end = line_end(input, start);
+        let end = cases::line_end(input, start);
         answer_line(&input[start..end]);
         start = end + 1;
     }

@@ -1,5 +1,4 @@
 // What decode answers, in text: the kind's name, its fields, and the bytes consumed; need-more; or the refusal.
-use crate::text;
 use protocol::Decoded;
 use protocol::List;
 use protocol::Message;
@@ -13,27 +12,23 @@ use protocol::response::SslResponse;
 
 // A string, a value or a rest.
 pub fn write_span(name: &[u8], span: Span) {
-    text::write(name);
-    text::write_number(span.start);
-    text::write(b"+");
-    text::write_number(span.len);
+    cases::write(name);
+    cases::write_span(span);
 }
 
 fn write_list(name: &[u8], list: List) {
-    text::write(name);
-    text::write_number(list.start);
-    text::write(b"x");
-    text::write_number(list.count);
+    cases::write(name);
+    cases::write_list(list);
 }
 
 pub fn write_letter(name: &[u8], letter: u8) {
-    text::write(name);
-    text::write_byte(letter);
+    cases::write(name);
+    cases::write_letter(letter);
 }
 
 pub fn write_signed(name: &[u8], n: i32) {
-    text::write(name);
-    text::write_signed(n);
+    cases::write(name);
+    cases::write_signed(n);
 }
 
 fn write_parse(m: Parse) {
@@ -78,22 +73,22 @@ fn write_cancel(m: CancelRequest) {
 
 fn write_ssl(answer: SslResponse) {
     match answer {
-        SslResponse::Accept => text::write(b"SslResponse Accept"),
-        SslResponse::Refuse => text::write(b"SslResponse Refuse"),
+        SslResponse::Accept => cases::write(b"SslResponse Accept"),
+        SslResponse::Refuse => cases::write(b"SslResponse Refuse"),
     }
 }
 
 fn write_gss(answer: GssEncResponse) {
     match answer {
-        GssEncResponse::Accept => text::write(b"GssEncResponse Accept"),
-        GssEncResponse::Refuse => text::write(b"GssEncResponse Refuse"),
+        GssEncResponse::Accept => cases::write(b"GssEncResponse Accept"),
+        GssEncResponse::Refuse => cases::write(b"GssEncResponse Refuse"),
     }
 }
 
 // The kinds go by the Rust's files: one function of all thirty takes the checker far longer.
 fn write_response(message: Message) {
     match message {
-        Message::EmptyQueryResponse => text::write(b"EmptyQueryResponse"),
+        Message::EmptyQueryResponse => cases::write(b"EmptyQueryResponse"),
         Message::CommandComplete(m) => write_span(b"CommandComplete tag ", m.tag),
         Message::ReadyForQuery(m) => write_letter(b"ReadyForQuery status ", m.status),
         Message::ErrorResponse(m) => write_list(b"ErrorResponse fields ", m.fields),
@@ -102,7 +97,7 @@ fn write_response(message: Message) {
         Message::CancelRequest(m) => write_cancel(m),
         Message::SslResponse(answer) => write_ssl(answer),
         Message::GssEncResponse(answer) => write_gss(answer),
-        _ => text::write(b"no kind"),
+        _ => cases::write(b"no kind"),
     }
 }
 
@@ -111,14 +106,14 @@ fn write_data(message: Message) {
         Message::RowDescription(m) => write_list(b"RowDescription fields ", m.fields),
         Message::ParameterDescription(m) => write_list(b"ParameterDescription types ", m.types),
         Message::DataRow(m) => write_list(b"DataRow data ", m.data),
-        Message::NoData => text::write(b"NoData"),
+        Message::NoData => cases::write(b"NoData"),
         _ => write_response(message),
     }
 }
 
 fn write_copying(message: Message) {
     match message {
-        Message::CopyDone => text::write(b"CopyDone"),
+        Message::CopyDone => cases::write(b"CopyDone"),
         Message::CopyData(m) => write_span(b"CopyData data ", m.data),
         Message::CopyFail(m) => write_span(b"CopyFail message ", m.message),
         Message::CopyInResponse(m) => write_copy(
@@ -150,32 +145,25 @@ fn write_message(message: Message) {
             write_span(b"Execute name ", m.name);
             write_signed(b" max_rows ", m.max_rows);
         }
-        Message::Flush => text::write(b"Flush"),
-        Message::Sync => text::write(b"Sync"),
-        Message::ParseComplete => text::write(b"ParseComplete"),
-        Message::BindComplete => text::write(b"BindComplete"),
-        Message::CloseComplete => text::write(b"CloseComplete"),
-        Message::PortalSuspended => text::write(b"PortalSuspended"),
+        Message::Flush => cases::write(b"Flush"),
+        Message::Sync => cases::write(b"Sync"),
+        Message::ParseComplete => cases::write(b"ParseComplete"),
+        Message::BindComplete => cases::write(b"BindComplete"),
+        Message::CloseComplete => cases::write(b"CloseComplete"),
+        Message::PortalSuspended => cases::write(b"PortalSuspended"),
         _ => write_copying(message),
     }
-}
-
-pub fn write_refused(number: u8, place: usize) {
-    text::write(b"refused ");
-    text::write_number(number as usize);
-    text::write(b" at ");
-    text::write_number(place);
 }
 
 pub fn write_decoded(decoded: Decoded) {
     match decoded {
         Decoded::Record(message, consumed) => {
             write_message(message);
-            text::write(b", ");
-            text::write_number(consumed);
-            text::write(b" consumed");
+            cases::write(b", ");
+            cases::write_number(consumed);
+            cases::write(b" consumed");
         }
-        Decoded::NeedMore => text::write(b"need-more"),
-        Decoded::Refused(number, place) => write_refused(number, place),
+        Decoded::NeedMore => cases::write(b"need-more"),
+        Decoded::Refused(number, place) => cases::write_refused(number, place),
     }
 }

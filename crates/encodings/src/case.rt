@@ -31,8 +31,6 @@ pub const COMMENT: usize = 9;
 
 const MALFORMED: usize = 10;
 
-const NO_DIGIT: u8 = 16;
-
 // More than any number that fits.
 const TOO_LARGE: usize = 99999999999;
 
@@ -131,14 +129,6 @@ fn section_of(letter: u8) -> usize {
         b'f' => FORMATS,
         b'r' => RESULTS,
         _ => MALFORMED,
-    }
-}
-
-fn digit_of(letter: u8) -> u8 {
-    match letter {
-        b'0'..=b'9' => letter - b'0',
-        b'A'..=b'F' => letter - b'A' + 10,
-        _ => NO_DIGIT,
     }
 }
 
@@ -279,7 +269,7 @@ fn with_name(mut case: Case, letter: u8) -> Case {
 }
 
 pub fn step(mut case: Case, letter: u8) -> Case {
-    let digit = digit_of(letter);
+    let digit = cases::digit(letter);
     if case.section == NAME {
         return with_name(case, letter);
     }
@@ -289,7 +279,7 @@ pub fn step(mut case: Case, letter: u8) -> Case {
     if letter == b' ' {
         return with_space(case);
     }
-    if digit == NO_DIGIT {
+    if digit == cases::NO_DIGIT {
         return with_letter(case, letter);
     }
     case.size = appended(case.section, case.size, digit);

@@ -8,8 +8,8 @@ mod long;
 mod text;
 
 use case::Case;
+use cases::write_letter;
 use libc::STDIN_FILENO;
-use text::write_letter;
 
 // Stands in every byte of an output before a call: what an encoder leaves is seen.
 pub const SPARE: u8 = 238;

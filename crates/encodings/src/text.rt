@@ -1,31 +1,17 @@
 // What an encoder answers, in text, with every byte of the output: of a long one the number and two sums.
+use cases::write;
+use cases::write_hex;
+use cases::write_letter;
+use cases::write_number;
+use cases::write_refused;
 use libc::STDOUT_FILENO;
 use protocol::Encoded;
 
 // The longest output that is written byte by byte.
 const SHORT: usize = 64;
 
-pub fn write(bytes: &[u8]) {
-    io::write_all(STDOUT_FILENO, bytes);
-}
-
-pub fn write_letter(letter: u8) {
-    write(&[letter]);
-}
-
-fn write_number(n: usize) {
-    io::print_decimal(STDOUT_FILENO, n as u64);
-}
-
 fn wide(byte: u8) -> u64 {
     byte as u64
-}
-
-fn write_hex(bytes: &[u8]) {
-    for i in 0..bytes.len() {
-        write_letter(b' ');
-        io::print_hex(STDOUT_FILENO, wide(bytes[i]), 2);
-    }
 }
 
 // The sum of the bytes, and the sum of the sums up to each of them, which tells their places too. Both wrap.
@@ -49,10 +35,8 @@ fn write_encoded(encoded: Encoded) {
             write_number(size);
         }
         Encoded::Refused(number, place) => {
-            write(b" = refused ");
-            write_number(number as usize);
-            write(b" at ");
-            write_number(place);
+            write(b" = ");
+            write_refused(number, place);
         }
     }
 }

@@ -1,8 +1,8 @@
 // The fields that are given, and a pass over those that are read.
 ghost use mathlib.Core.Path.{_≡_};
 ghost use lib.ListN.{length};
-use crate::text::write;
-use crate::text::write_number;
+use cases::write;
+use cases::write_number;
 use codec::Cursor;
 use items::response::ErrorStep;
 use protocol::Rules;

@@ -2,16 +2,17 @@
 // A field takes three bytes: a code, a byte, a zero byte. So the frame has 5 + 40,000 * 3 + 1 = 120,006 bytes and the length word 120,005,
 // which is 00 01 D4 C5; field i begins at 5 + 3 * i and its string at 6 + 3 * i, and the zero code that ends the fields stands at 120,005.
 mod fields;
-mod text;
 
+use cases::write;
+use cases::write_number;
+use cases::write_refused;
 use fields::COUNT;
 use fields::ROOM;
 use protocol::Decoded;
 use protocol::Element;
 use protocol::Encoded;
 use protocol::Message;
-use text::write;
-use text::write_number;
+use protocol::Span;
 
 fn write_encoded(encoded: Encoded) {
     match encoded {
@@ -19,7 +20,7 @@ fn write_encoded(encoded: Encoded) {
             write(b"done ");
             write_number(size);
         }
-        Encoded::Refused(number, place) => text::write_refused(number, place),
+        Encoded::Refused(number, place) => write_refused(number, place),
     }
 }
 
@@ -65,9 +66,7 @@ fn write_message(message: Message) {
         Message::ErrorResponse(error) => {
             let list = error.fields;
             write(b"ErrorResponse fields ");
-            write_number(list.start);
-            write(b"x");
-            write_number(list.count);
+            cases::write_list(list);
         }
         _ => write(b"another message"),
     }
@@ -83,7 +82,7 @@ fn write_decoded(buf: &[u8]) {
         }
         Decoded::NeedMore => write(b"need-more\n"),
         Decoded::Refused(number, place) => {
-            text::write_refused(number, place);
+            write_refused(number, place);
             write(b"\n");
         }
     }
@@ -105,13 +104,20 @@ fn decode_unended(out: [u8; ROOM]) {
     write_decoded(fields::first(&out, 120005));
 }
 
+fn write_field(code: u8, string: Span) {
+    write(b"code ");
+    write_number(code as usize);
+    write(b" string ");
+    cases::write_span(string);
+}
+
 fn write_element(buf: &[u8], number: usize) {
     write(b"element ");
     write_number(number);
     write(b": ");
     match element::element(1, buf, 0, number) {
-        Element::ErrorField(code, string) => text::write_field(code, string),
-        Element::Refused(number, place) => text::write_refused(number, place),
+        Element::ErrorField(code, string) => write_field(code, string),
+        Element::Refused(number, place) => write_refused(number, place),
         _ => write(b"another element"),
     }
     write(b"\n");
@@ -133,9 +139,10 @@ fn main() {
     write_of(&codes, &lengths, &joined, ROOM);
     let frame = frame_of(&codes, &lengths, &joined);
     write(b"first");
-    text::write_hex(decode::part(&frame, 0, 11));
-    write(b"last");
-    text::write_hex(decode::part(&frame, 120002, 8));
+    cases::write_hex(decode::part(&frame, 0, 11));
+    write(b"\nlast");
+    cases::write_hex(decode::part(&frame, 120002, 8));
+    write(b"\n");
     write_of(&codes, &lengths, &joined, 120006);
     write_of(&codes, &lengths, &joined, 120005);
     decode_first(&frame, ROOM);

@@ -3,35 +3,17 @@
 mod case;
 mod rows;
 mod steps;
-mod text;
 mod through;
 
-ghost use Prim.Native.Nat.{_≤_};
-ghost use lib.ListN.{length};
-use case::Bytes;
+use cases::Bytes;
 use libc::STDIN_FILENO;
-
-// Where the line that begins at `start` ends.
-fn line_end(input: &[u8], start: usize) -> usize
-    requires { ⌜ start ≤ length (now input) ⌝ }
-    ensures { λ r. ⌜ (start ≤ r) × (r ≤ length (now (input .entry))) ⌝ }
-{
-    let mut end = start;
-    while end < input.len() {
-        if input[end] == b'\n' {
-            return end;
-        }
-        end += 1;
-    }
-    end
-}
 
 // By the first letter of a case's name.
 fn answer(name: u8, first: usize, second: usize, frame: &[u8]) {
     match name {
         b'n' => {
-            text::write(b"at ");
-            text::write_number(through::place_of_new(frame));
+            cases::write(b"at ");
+            cases::write_number(through::place_of_new(frame));
         }
         b'r' => rows::answer(frame, first, second),
         _ => steps::answer(name, frame, second),
@@ -42,27 +24,27 @@ fn answer_case(name: u8, line: &[u8]) {
     let head = case::read_head(line);
     let end = head.end;
     let mut room = [0u8; case::ROOM];
-    match case::read_bytes(&line[end..], &mut room) {
+    match cases::read_bytes(&line[end..], &mut room) {
         Bytes::Of(count) => answer(name, head.first, head.second, case::first(&room, count)),
-        Bytes::Malformed => text::write(b"malformed case"),
+        Bytes::Malformed => cases::write(b"malformed case"),
     }
 }
 
 // Every line is written back; what is no comment, with its answer.
 fn answer_line(line: &[u8]) {
-    text::write(line);
+    cases::write(line);
     let name = if line.len() == 0 { 0 } else { line[0] };
     if name != b'#' {
-        text::write(b" = ");
+        cases::write(b" = ");
         answer_case(name, line);
     }
-    text::write(b"\n");
+    cases::write(b"\n");
 }
 
 fn answer_lines(input: &[u8]) {
     let mut start: usize = 0;
     while start < input.len() {
-        let end = line_end(input, start);
+        let end = cases::line_end(input, start);
         answer_line(&input[start..end]);
         start = end + 1;
     }

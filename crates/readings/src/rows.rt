@@ -1,5 +1,4 @@
 // A whole row, read into two lists that hold marks, and both lists after it.
-use crate::text;
 use reader::row::Row;
 
 // An entry that is kept is seen, and where it stands.
@@ -10,36 +9,29 @@ const LENGTHS: [i32; 4] = [-900, -901, -902, -903];
 fn write_row(row: Row) {
     match row {
         Row::Is(list, consumed) => {
-            text::write_number(list.start);
-            text::write(b"x");
-            text::write_number(list.count);
-            text::write(b", ");
-            text::write_number(consumed);
-            text::write(b" consumed");
+            cases::write_list(list);
+            cases::write(b", ");
+            cases::write_number(consumed);
+            cases::write(b" consumed");
         }
-        Row::NeedMore => text::write(b"need-more"),
-        Row::Refused(number, place) => {
-            text::write(b"refused ");
-            text::write_number(number as usize);
-            text::write(b" at ");
-            text::write_number(place);
-        }
+        Row::NeedMore => cases::write(b"need-more"),
+        Row::Refused(number, place) => cases::write_refused(number, place),
     }
 }
 
 fn write_starts(starts: &[usize]) {
-    text::write(b"; starts");
+    cases::write(b"; starts");
     for i in 0..starts.len() {
-        text::write(b" ");
-        text::write_number(starts[i]);
+        cases::write(b" ");
+        cases::write_number(starts[i]);
     }
 }
 
 fn write_lengths(lengths: &[i32]) {
-    text::write(b"; lengths");
+    cases::write(b"; lengths");
     for i in 0..lengths.len() {
-        text::write(b" ");
-        text::write_signed(lengths[i]);
+        cases::write(b" ");
+        cases::write_signed(lengths[i]);
     }
 }
 
@@ -54,11 +46,11 @@ pub fn answer(buf: &[u8], start_count: usize, length_count: usize) {
     let mut starts = STARTS;
     let mut lengths = LENGTHS;
     if 4 < start_count {
-        text::write(b"malformed case");
+        cases::write(b"malformed case");
         return;
     }
     if 4 < length_count {
-        text::write(b"malformed case");
+        cases::write(b"malformed case");
         return;
     }
     answer_in(

@@ -1,5 +1,4 @@
 // A step at a place of a frame: what the function of a slice and a place answers, and then what a reader sent there answers.
-use crate::text;
 use crate::through;
 use codec::Byte;
 use codec::Cursor;
@@ -10,47 +9,45 @@ use codec::Word;
 use protocol::Span;
 
 fn write_next(next: Cursor) {
-    text::write(b" next ");
-    text::write_number(next.at);
+    cases::write(b" next ");
+    cases::write_number(next.at);
 }
 
 fn write_part(part: Span, next: Cursor) {
-    text::write_number(part.start);
-    text::write(b"+");
-    text::write_number(part.len);
+    cases::write_span(part);
     write_next(next);
 }
 
 fn write_read(n: usize, next: Cursor) {
-    text::write_number(n);
+    cases::write_number(n);
     write_next(next);
 }
 
 fn write_byte(byte: Byte) {
     match byte {
         Byte::Is(n, next) => write_read(n as usize, next),
-        Byte::Cut => text::write(b"cut"),
+        Byte::Cut => cases::write(b"cut"),
     }
 }
 
 fn write_half(half: Half) {
     match half {
         Half::Is(n, next) => write_read(n as usize, next),
-        Half::Cut => text::write(b"cut"),
+        Half::Cut => cases::write(b"cut"),
     }
 }
 
 fn write_word(word: Word) {
     match word {
         Word::Is(n, next) => write_read(n as usize, next),
-        Word::Cut => text::write(b"cut"),
+        Word::Cut => cases::write(b"cut"),
     }
 }
 
 fn write_string(string: Text) {
     match string {
         Text::Is(part, next) => write_part(part, next),
-        Text::Cut => text::write(b"cut"),
+        Text::Cut => cases::write(b"cut"),
     }
 }
 
@@ -58,16 +55,16 @@ fn write_value(value: Value) {
     match value {
         Value::Is(part, next) => write_part(part, next),
         Value::Null(next) => {
-            text::write(b"null");
+            cases::write(b"null");
             write_next(next);
         }
-        Value::Cut => text::write(b"cut"),
-        Value::BelowNull => text::write(b"below null"),
+        Value::Cut => cases::write(b"cut"),
+        Value::BelowNull => cases::write(b"below null"),
     }
 }
 
 fn write_by_reader() {
-    text::write(b"; by a reader ");
+    cases::write(b"; by a reader ");
 }
 
 pub fn answer(name: u8, frame: &[u8], at: usize) {
@@ -97,6 +94,6 @@ pub fn answer(name: u8, frame: &[u8], at: usize) {
             write_by_reader();
             write_value(through::value_through(frame, at));
         }
-        _ => text::write(b"malformed case"),
+        _ => cases::write(b"malformed case"),
     }
 }

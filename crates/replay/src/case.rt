@@ -19,8 +19,6 @@ const IN_NUMBERS: u8 = 2;
 
 const MALFORMED: u8 = 3;
 
-const NO_DIGIT: u8 = 16;
-
 pub struct Case {
     // What is being read.
     pub part: u8,
@@ -39,7 +37,7 @@ pub fn start() -> Case {
         part: IN_MODE,
         mode: 0,
         count: 0,
-        high: NO_DIGIT,
+        high: cases::NO_DIGIT,
         index: 0,
         number: 0,
         digits: 0,
@@ -62,20 +60,12 @@ fn to_part(case: Case, part: u8) -> Case {
     case
 }
 
-fn digit(letter: u8) -> u8 {
-    match letter {
-        b'0'..=b'9' => letter - b'0',
-        b'A'..=b'F' => letter - b'A' + 10,
-        _ => NO_DIGIT,
-    }
-}
-
 fn in_mode(case: Case, letter: u8) -> Case {
     let mut case = case;
     if letter == b' ' {
         return to_part(case, IN_BYTES);
     }
-    let value = digit(letter);
+    let value = cases::digit(letter);
     if 9 < value {
         return to_part(case, MALFORMED);
     }
@@ -99,7 +89,7 @@ fn with_byte(case: Case, low: u8, frame: &mut [u8; ROOM]) -> Case {
     }
     frame[count] = high * 16 + low;
     case.count = count + 1;
-    case.high = NO_DIGIT;
+    case.high = cases::NO_DIGIT;
     case
 }
 
@@ -109,11 +99,11 @@ fn in_bytes(case: Case, letter: u8, frame: &mut [u8; ROOM]) -> Case {
         b' ' => case,
         b'=' => to_part(case, IN_NUMBERS),
         _ => {
-            let value = digit(letter);
-            if case.high != NO_DIGIT {
+            let value = cases::digit(letter);
+            if case.high != cases::NO_DIGIT {
                 return with_byte(case, value, frame);
             }
-            if value == NO_DIGIT {
+            if value == cases::NO_DIGIT {
                 return to_part(case, MALFORMED);
             }
             case.high = value;
@@ -168,7 +158,7 @@ fn in_numbers(case: Case, letter: u8, expected: &mut [usize; BOTH]) -> Case {
     match letter {
         b' ' => with_number(case, expected),
         b'|' => at_bar(case),
-        _ => with_digit(case, digit(letter)),
+        _ => with_digit(case, cases::digit(letter)),
     }
 }
 

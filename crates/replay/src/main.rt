@@ -6,8 +6,9 @@ use case::BOTH;
 use case::Case;
 use case::ROOM;
 use case::ROW;
+use cases::write;
+use cases::write_number;
 use libc::STDIN_FILENO;
-use libc::STDOUT_FILENO;
 
 // The list is read in so many pieces of 65,536 letters, more than it has.
 const PIECES: usize = 32;
@@ -23,14 +24,6 @@ const CONSUMED: usize = 3;
 const KIND: usize = 4;
 
 const REFUSED: usize = 2;
-
-fn write(bytes: &[u8]) {
-    io::write_all(STDOUT_FILENO, bytes);
-}
-
-fn write_number(n: usize) {
-    io::print_decimal(STDOUT_FILENO, n as u64);
-}
 
 fn are_equal(got: &[usize; ROW], expected: &[usize; BOTH]) -> bool {
     for i in 0..ROW {

@@ -1,14 +1,16 @@
--- `readings::case::read_bytes` is safe and ends: there are three letters for each byte.
+-- `cases::read_bytes` is safe and ends: there are three letters for each byte.
 use Prim.Native.Nat.{_-_}
+use mathlib.Core.Path.{_≡_}
+use lib.ListN.{length}
 use borrow.Author.Needs.{needs}
-use Rattle.readings.proofs.case.read_bytes.Statement.{statement}
-use Rattle.readings.proofs.case.read_bytes.Tie as tie
+use Rattle.cases.proofs.read_bytes.Statement.{statement}
+use Rattle.cases.proofs.read_bytes.Tie as tie
 
 abbrev Inv-loop : tie.InvT-loop
-Inv-loop digits frame₀ count i₀ frame i = Unit {0}
+Inv-loop digits room₀ count i₀ room i = length room ≡ length room₀
 
 abbrev μ-loop : tie.MeasureT-loop
-μ-loop digits frame₀ count i₀ frame i = count - i
+μ-loop digits room₀ count i₀ room i = count - i
 
 pub read-bytes-spec : {M : Type 1} → statement M
 read-bytes-spec =
@@ -26,6 +28,8 @@ read-bytes-spec =
     (λ c. search needs)
     (λ c. search needs)
     (λ c κs. search needs)
+    (λ c. search needs)
+    (λ c. search needs)
     (λ c. search needs)
     (λ c. search needs)
     (λ c. search needs)

@@ -1,8 +1,8 @@
--- `encodings::text::write_hex` is safe and ends.
+-- `cases::write_hex` is safe and ends.
 use Prim.Native.Nat.{_-_}
 use borrow.Author.Needs.{needs}
-use Rattle.encodings.proofs.text.write_hex.Statement.{statement}
-use Rattle.encodings.proofs.text.write_hex.Tie as tie
+use Rattle.cases.proofs.write_hex.Statement.{statement}
+use Rattle.cases.proofs.write_hex.Tie as tie
 
 abbrev Inv-loop : tie.InvT-loop
 Inv-loop bytes i₀ i-end i = Unit {0}

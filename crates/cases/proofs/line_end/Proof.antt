@@ -1,9 +1,9 @@
--- `readings::line_end` meets its contract.
+-- `cases::line_end` meets its contract: the line ends at or after its start, within the input.
 use Prim.Native.Nat.{_-_, _≤_}
 use lib.ListN.{length}
 use borrow.Author.Needs.{needs}
-use Rattle.readings.proofs.line_end.Statement.{statement}
-use Rattle.readings.proofs.line_end.Tie as tie
+use Rattle.cases.proofs.line_end.Statement.{statement}
+use Rattle.cases.proofs.line_end.Tie as tie
 
 abbrev Inv-loop : tie.InvT-loop
 Inv-loop input start end₀ end = (start ≤ end) × (end ≤ length input)
@@ -17,6 +17,7 @@ line-end-spec =
     (tie.spec
     Inv-loop
     μ-loop
+    (λ c. search needs)
     (λ c. search needs)
     (λ c. search needs)
     (λ c. search needs)
