@@ -33,11 +33,11 @@ machine_tools() {
 # The folder of the two archives is TUSWERAM_LIB; where none is given, they are proved and built.
 archives() {
     if [ -z "${TUSWERAM_LIB:-}" ]; then
-        command -v rt >/dev/null 2>&1 || skip "no command rt, and TUSWERAM_LIB names no folder with libhost.a and libparts.a"
+        command -v rt >/dev/null 2>&1 || skip "no command rt, and TUSWERAM_LIB names no folder with libhost.a and libhost_parts.a"
         "$bindings/archives" || stop "there are no archives to link"
         TUSWERAM_LIB=$root/target/staticlib
     fi
-    for archive in libhost.a libparts.a; do
+    for archive in libhost.a libhost_parts.a; do
         [ -f "$TUSWERAM_LIB/$archive" ] || stop "$TUSWERAM_LIB has no $archive"
     done
     TUSWERAM_LIB=$(cd "$TUSWERAM_LIB" && pwd -P)

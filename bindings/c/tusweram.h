@@ -1,6 +1,6 @@
 /* Tusweram for a C host: messages of the PostgreSQL wire protocol, version 3, read and written in lent buffers.
  *
- * Link the two archives that `rt staticlib host` and `rt staticlib parts` make (target/staticlib/libhost.a and libparts.a, for x86-64). They
+ * Link the two archives that `rt staticlib host` and `rt staticlib host_parts` make (target/staticlib/libhost.a and libhost_parts.a, for x86-64). They
  * need nothing else, keep nothing between calls, allocate nothing, and may be called from any thread.
  *
  * A slice is two arguments: a pointer, and how many elements it has. NULL is allowed where the length is 0. What a host must see to: each
@@ -110,7 +110,7 @@ enum tusweram_refusal {
 /* The first message of a buffer; any bytes may follow it. */
 void tusweram_decode(uint8_t mode, const uint8_t *buf, size_t buf_len, size_t out[TUSWERAM_NUMBERS]);
 
-/* libparts.a has this function and the four below; libhost.a has the others.
+/* libhost_parts.a has this function and the four below; libhost.a has the others.
  *
  * An element of a list of the buffer's first message. BIND has lists 0 (formats), 1 (values) and 2 (result formats), every other kind with a
  * list has list 0. Each call decodes the message anew. */

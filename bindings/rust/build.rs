@@ -1,11 +1,11 @@
-//! Links the library's two archives. `TUSWERAM_LIB` names a folder that has `libhost.a` and `libparts.a`; without it, `rt staticlib` proves and
+//! Links the library's two archives. `TUSWERAM_LIB` names a folder that has `libhost.a` and `libhost_parts.a`; without it, `rt staticlib` proves and
 //! builds them.
 
 use std::env;
 use std::path::{Path, PathBuf};
 use std::process::Command;
 
-const ARCHIVES: [&str; 2] = ["host", "parts"];
+const ARCHIVES: [&str; 2] = ["host", "host_parts"];
 
 fn main() {
     println!("cargo:rerun-if-env-changed=TUSWERAM_LIB");

@@ -1,4 +1,4 @@
-//! The numbers of kinds and of elements at the boundary, as crates/layout/specs/LaidOut.antt has them, and what a number stands for.
+//! The numbers of kinds and of elements at the boundary, as crates/host_layout/specs/LaidOut.antt has them, and what a number stands for.
 
 pub mod kind {
     pub const PARSE: usize = 1;

@@ -474,7 +474,7 @@ pub fn list_content(part: Part, elements: &[Element], buf: &[u8]) -> Field {
     }
 }
 
-// ---- the numbers at the boundary (crates/layout/specs/LaidOut.antt): status, refusal number, place, consumed, kind, fields
+// ---- the numbers at the boundary (crates/host_layout/specs/LaidOut.antt): status, refusal number, place, consumed, kind, fields
 
 pub const ROW: usize = 16;
 pub type Row = [usize; ROW];

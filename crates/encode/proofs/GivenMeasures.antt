@@ -12,12 +12,12 @@ use Rattle.protocol.specs.Each.{ableEach, bytesOfEach}
 use Rattle.protocol.specs.Encode.{items, valuesGiven, errorFieldsGiven}
 use Rattle.protocol.specs.Kinds as K
 use Rattle.protocol.specs.WellFormed.{bodyBytes}
-use Rattle.pen.specs.Given.{isSome}
-use Rattle.pen.proofs.Encoding.{Measured}
-use Rattle.pen.proofs.ErrorLaws.{able-errors, length-errors}
-use Rattle.pen.proofs.GivenLaws.{measured-given}
-use Rattle.pen.proofs.Lists.{and-true, able-text, able-formats, length-text, length-formats}
-use Rattle.pen.proofs.ValueLaws.{able-values, length-values}
+use Rattle.writers.specs.Given.{isSome}
+use Rattle.writers.proofs.Encoding.{Measured}
+use Rattle.writers.proofs.ErrorLaws.{able-errors, length-errors}
+use Rattle.writers.proofs.GivenLaws.{measured-given}
+use Rattle.writers.proofs.Lists.{and-true, able-text, able-formats, length-text, length-formats}
+use Rattle.writers.proofs.ValueLaws.{able-values, length-values}
 use Rattle.encode.specs.Given as G
 
 pub bind : (portal statement : List ℕ) (formats lengths : List ℤ) (joined : List ℕ) (results : List ℤ)

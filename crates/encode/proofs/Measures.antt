@@ -13,11 +13,11 @@ use Rattle.protocol.specs.Each.{ableEach, bytesOfEach}
 use Rattle.protocol.specs.Encode.{items, valuesGiven}
 use Rattle.protocol.specs.Kinds as K
 use Rattle.protocol.specs.WellFormed.{bodyBytes}
-use Rattle.pen.specs.Given.{isSome}
-use Rattle.pen.proofs.Encoding.{Measured, measured}
-use Rattle.pen.proofs.GivenLaws.{measured-given}
-use Rattle.pen.proofs.Lists.{and-true, able-text, able-signed, able-byte, able-oids, length-text, length-signed, length-byte, length-oids, able-rest, able-formats, length-rest, length-formats}
-use Rattle.pen.proofs.ValueLaws.{able-values, length-values}
+use Rattle.writers.specs.Given.{isSome}
+use Rattle.writers.proofs.Encoding.{Measured, measured}
+use Rattle.writers.proofs.GivenLaws.{measured-given}
+use Rattle.writers.proofs.Lists.{and-true, able-text, able-signed, able-byte, able-oids, length-text, length-signed, length-byte, length-oids, able-rest, able-formats, length-rest, length-formats}
+use Rattle.writers.proofs.ValueLaws.{able-values, length-values}
 use Rattle.encode.specs.Given as G
 
 pub parse : (name query oids : List ℕ)

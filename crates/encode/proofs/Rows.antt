@@ -16,13 +16,13 @@ use Rattle.protocol.specs.Encode.{Encodes}
 use Rattle.protocol.specs.Fields.{able, bytes, itemsAble, itemsBytes}
 use Rattle.protocol.specs.Kinds as K
 use Rattle.protocol.specs.WellFormed.{Contents, bodyBytes, header}
-use Rattle.pen.specs.Writing.{write, Wrote, Framed}
-use Rattle.pen.proofs.Encoding.{Measured, Judged, ableOf, framed, judged, roomOf, refused, finished}
-use Rattle.pen.proofs.Laws.{_then_, nothing}
-use Rattle.pen.proofs.Lists.{and-true, and-left, and-right}
-use Rattle.rows.specs.declared.Pen.{Pen}
-use Rattle.rows.specs.Passes.{allPen, allOut, answered, begun, blank, writer}
-use Rattle.rows.proofs.Whole.{rows, allNamed, allInside, total, given-is, length-rows, able-rows, length-rows-bytes, pen-ok, pen-at, length-write, nothing-written, all-written}
+use Rattle.writers.specs.Writing.{write, Wrote, Framed}
+use Rattle.writers.proofs.Encoding.{Measured, Judged, ableOf, framed, judged, roomOf, refused, finished}
+use Rattle.writers.proofs.Laws.{_then_, nothing}
+use Rattle.writers.proofs.Lists.{and-true, and-left, and-right}
+use Rattle.row_fields.specs.declared.Pen.{Pen}
+use Rattle.row_fields.specs.Passes.{allPen, allOut, answered, begun, blank, writer}
+use Rattle.row_fields.proofs.Whole.{rows, allNamed, allInside, total, given-is, length-rows, able-rows, length-rows-bytes, pen-ok, pen-at, length-write, nothing-written, all-written}
 use Rattle.encode.specs.Given as G
 
 module _ (fs : List FieldDescription) (run : List ℕ) where

@@ -6,13 +6,13 @@ ghost use lib.ListN.{length};
 ghost use Rattle.protocol.specs.Bytes.{bitsOf};
 ghost use Rattle.protocol.specs.Encode.{Encodes};
 ghost use Rattle.protocol.specs.Kinds as K;
-ghost use Rattle.pen.specs.Writing.{Framed};
+ghost use Rattle.writers.specs.Writing.{Framed};
 ghost use Rattle.encode.specs.Given as G;
-use pen::bits32;
-use pen::put_word;
 use protocol::Encoded;
 use protocol::cancel::CancelRequest;
 use protocol::refusal::OUTPUT_TOO_SHORT;
+use writers::bits32;
+use writers::put_word;
 
 // pid and key are the bits of the two numbers.
 fn write_cancel_request(pid: u32, key: u32, out: &mut [u8])

@@ -6,17 +6,10 @@ ghost use lib.ListN.{length};
 ghost use Rattle.protocol.specs.Bytes.{bitsOf};
 ghost use Rattle.protocol.specs.Encode.{Encodes};
 ghost use Rattle.protocol.specs.Kinds as K;
-ghost use Rattle.pen.specs.Writing.{Framed};
+ghost use Rattle.writers.specs.Writing.{Framed};
 ghost use Rattle.encode.specs.Given as G;
 use crate::bare;
 use crate::one_text;
-use pen::bits8;
-use pen::plus;
-use pen::put_byte;
-use pen::put_bytes;
-use pen::put_formats;
-use pen::put_head;
-use pen::verdict;
 use protocol::Encoded;
 use protocol::copy::MESSAGE_TYPE_BYTE_COPY_BOTH_RESPONSE;
 use protocol::copy::MESSAGE_TYPE_BYTE_COPY_DATA;
@@ -26,6 +19,13 @@ use protocol::copy::MESSAGE_TYPE_BYTE_COPY_IN_RESPONSE;
 use protocol::copy::MESSAGE_TYPE_BYTE_COPY_OUT_RESPONSE;
 use protocol::kinds::LARGE;
 use protocol::kinds::SMALL;
+use writers::bits8;
+use writers::plus;
+use writers::put_byte;
+use writers::put_bytes;
+use writers::put_formats;
+use writers::put_head;
+use writers::verdict;
 
 fn write_copy_data(data: &[u8], n: usize, out: &mut [u8])
     requires { ⌜ (n ≡ length (now «data») + 5) × (n ≤ length (now out)) × (n ≤ K.largeFrame) ⌝ }

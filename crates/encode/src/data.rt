@@ -5,26 +5,26 @@ ghost use mathlib.Core.Path.{_≡_};
 ghost use lib.ListN.{length};
 ghost use Rattle.protocol.specs.Encode.{Encodes, valuesGiven};
 ghost use Rattle.protocol.specs.Kinds as K;
-ghost use Rattle.pen.specs.Given.{isSome};
-ghost use Rattle.pen.specs.Writing.{Framed};
+ghost use Rattle.writers.specs.Given.{isSome};
+ghost use Rattle.writers.specs.Writing.{Framed};
 ghost use Rattle.encode.specs.Given as G;
 use crate::bare;
 use crate::put_values;
-use pen::plus;
-use pen::put_head;
-use pen::put_oids;
-use pen::values::values_given;
-use pen::verdict;
 use protocol::Encoded;
 use protocol::data::FieldDescription;
 use protocol::data::MESSAGE_TYPE_BYTE_DATA_ROW;
 use protocol::data::MESSAGE_TYPE_BYTE_NO_DATA;
 use protocol::data::MESSAGE_TYPE_BYTE_PARAMETER_DESCRITION;
 use protocol::kinds::LARGE;
-use rows::Pen;
-use rows::begin;
-use rows::each;
-use rows::writer;
+use row_fields::Pen;
+use row_fields::begin;
+use row_fields::each;
+use row_fields::writer;
+use writers::plus;
+use writers::put_head;
+use writers::put_oids;
+use writers::values::values_given;
+use writers::verdict;
 
 // A field names its column by start and length in the run. One pass measures, a second one writes; where the first finds a fault, the
 // second writes nothing. Walked by hand: a lent slice of structs is passed on.

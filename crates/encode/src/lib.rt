@@ -12,21 +12,21 @@ ghost use mathlib.Core.Path.{_≡_};
 ghost use lib.ListN.{length};
 ghost use Rattle.protocol.specs.Encode.{Encodes, valuesGiven};
 ghost use Rattle.protocol.specs.Kinds.{frontend, smallFrame, typed, values};
-ghost use Rattle.pen.specs.Given.{isSome};
-ghost use Rattle.pen.specs.Writing.{Framed};
+ghost use Rattle.writers.specs.Given.{isSome};
+ghost use Rattle.writers.specs.Writing.{Framed};
 ghost use Rattle.encode.specs.Given.{fieldless, textOf, texted};
 ghost use Rattle.encode.specs.Writing.{WroteGiven};
-use pen::bits32;
-use pen::no_zero;
-use pen::plus;
-use pen::put_half;
-use pen::put_head;
-use pen::put_text;
-use pen::put_value;
-use pen::values::size_of;
-use pen::verdict;
 use protocol::Encoded;
 use protocol::kinds::SMALL;
+use writers::bits32;
+use writers::no_zero;
+use writers::plus;
+use writers::put_half;
+use writers::put_head;
+use writers::put_text;
+use writers::put_value;
+use writers::values::size_of;
+use writers::verdict;
 
 fn write_bare(type_byte: u8, out: &mut [u8])
     requires { ⌜ 5 ≤ length (now out) ⌝ }

@@ -14,8 +14,8 @@ use Rattle.protocol.specs.Kinds.{Kind, Mode}
 use Rattle.protocol.specs.WellFormed.{Contents}
 use Rattle.host.specs.Asked.{Asked, encodedAs, writtenAs, Answers, answerBy}
 use Rattle.host.proofs.Numbers.{read-back}
-use Rattle.layout.specs.LaidOut.{ofNumbers}
-use Rattle.parts.specs.Reads.{LaysRow, rowOut, rowRead}
+use Rattle.host_layout.specs.LaidOut.{ofNumbers}
+use Rattle.host_parts.specs.Reads.{LaysRow, rowOut, rowRead}
 use Rattle.reader.specs.Row.{ofRow, ReadsRow, placesIn, startsOf, lengthsOf, over}
 use Rattle.reader.specs.declared.row.Row.the-variants as R
 use Rattle.reader.specs.declared.row.Row.{Row}

@@ -45,12 +45,12 @@ use Rattle.listing.specs.Listing.{Lines, Fills, stepOf}
 use Rattle.listing.specs.declared.Filled.{Filled}
 use Rattle.listing.specs.declared.Step.the-variants as S
 use Rattle.listing.specs.declared.Step.{Step}
-use Rattle.pen.specs.Writing.{Put}
-use Rattle.pen.proofs.Puts.{has-room}
+use Rattle.writers.specs.Writing.{Put}
+use Rattle.writers.proofs.Puts.{has-room}
 use Rattle.reader.specs.Row.{ReadsRow, placesIn, startsOf, lengthsOf, over}
 use Rattle.reader.specs.declared.FrameReader.{FrameReader}
 use Rattle.reader.specs.declared.row.Row.{Row}
-use Rattle.rows.specs.Passes as P
+use Rattle.row_fields.specs.Passes as P
 use Rattle.laws.specs.Tight.Bodies.{BodiesTight}
 use Rattle.laws.specs.Tight.Codec.{CodecTight}
 use Rattle.laws.specs.Tight.Decode.{DecodeTight}

@@ -12,8 +12,8 @@ use Rattle.protocol.specs.Encode.{Encodes}
 use Rattle.protocol.specs.Kinds.{Kind, Mode}
 use Rattle.protocol.specs.WellFormed.{Contents}
 use Rattle.host.specs.Asked.{Asked, Answers, answerBy}
-use Rattle.layout.specs.LaidOut.{ofNumbers}
-use Rattle.parts.specs.Reads.{LaysRow}
+use Rattle.host_layout.specs.LaidOut.{ofNumbers}
+use Rattle.host_parts.specs.Reads.{LaysRow}
 use Rattle.reader.specs.declared.row.Row.{Row}
 use Rattle.reader.specs.Row.{ofRow, ReadsRow}
 
@@ -35,6 +35,6 @@ pub record Lent : Type 0 where
   -- crate host: each exported encoder, whose answer is one number. An output in memory is far shorter than the numbers that say a refusal
   pub host : (a : Option Asked)
       → Leaves (λ (n : ℕ). ofEncoded (answerBy n)) (λ out n left. (length out < 18446744073709551360) × Answers a out n left)
-  -- parts::reading::tusweram_data_row: both lists; its answer is the sixteen numbers
+  -- host_parts::reading::tusweram_data_row: both lists; its answer is the sixteen numbers
   pub «tusweram_data_row» : (s : List ℕ)
       → Leaves ofNumbers (λ (x : Lists) (r : List ℕ) (y : Lists). LaysRow s (x .starts) (x .lengths) (y .starts) (y .lengths) r)

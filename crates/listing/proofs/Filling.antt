@@ -7,8 +7,8 @@ use lib.ListN.{length, length-append}
 use Rattle.listing.specs.declared.Left.{Left}
 use Rattle.listing.specs.declared.Line.{Line}
 use Rattle.listing.specs.Listing.{Lines, lineOf, linesOf, Lined, Fills}
-use Rattle.pen.specs.Writing.{write}
-use Rattle.pen.proofs.Laws.{turn}
+use Rattle.writers.specs.Writing.{write}
+use Rattle.writers.proofs.Laws.{turn}
 
 -- a line, and then the others
 abbrev pub before : Lines → Lines → Lines

@@ -3,7 +3,7 @@ use Prim.Native.Nat.{ℕ, _+_}
 use mathlib.Core.List.{List, _++_}
 use mathlib.Core.Path.{_≡_}
 use lib.ListN.{length, length-append}
-use Rattle.pen.proofs.Laws as Laws
+use Rattle.writers.proofs.Laws as Laws
 use Rattle.listing.specs.Text.{Wrote}
 
 -- as ++, to the left

@@ -12,7 +12,7 @@ use Rattle.protocol.specs.Kinds.{Mode, modes, find}
 use Rattle.protocol.specs.Names.{nameOf, lettersOf}
 use Rattle.protocol.specs.Stream as Stream
 use Rattle.protocol.specs.Stream.{End, whole, needMore, refused, frame, stop, Framed, Stream, stepAt, streamFrom}
-use Rattle.pen.specs.Writing.{write}
+use Rattle.writers.specs.Writing.{write}
 use Rattle.listing.specs.declared.Left.the-variants as L
 use Rattle.listing.specs.declared.Left.{Left}
 use Rattle.listing.specs.declared.Filled.{Filled}

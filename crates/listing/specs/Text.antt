@@ -4,7 +4,7 @@ use mathlib.Core.Bool.{cond}
 use mathlib.Core.List.{List, [], _∷_}
 use lib.Dec.{ltb}
 use lib.ListN.{length}
-use Rattle.pen.specs.Writing as Pen
+use Rattle.writers.specs.Writing as Pen
 
 -- n's decimal digits before `later`: each turn takes the last digit off, and after the turns one is left
 unfoldable pub digitsOnto : ℕ → ℕ → List ℕ → List ℕ

@@ -12,9 +12,9 @@ use lines::put_frame;
 use lines::put_need_more;
 use lines::put_refused;
 use lines::put_whole;
-use pen::put_bytes;
 use protocol::Decoded;
 use protocol::Message;
+use writers::put_bytes;
 
 // At most so many bytes follow the mode.
 pub const MOST: usize = 65536;

@@ -7,9 +7,9 @@ ghost use Rattle.listing.specs.Listing.{endLine, frameLine, newline};
 ghost use Rattle.listing.specs.Text.{Wrote, decimal};
 use crate::text::put_name;
 use crate::text::put_number;
-use pen::put_byte;
-use pen::put_bytes;
 use protocol::Message;
+use writers::put_byte;
+use writers::put_bytes;
 
 // The line of a frame: its place, its kind's name and its bytes.
 pub fn put_frame(out: &mut [u8], at: usize, place: usize, message: Message, bytes: usize) -> usize

@@ -4,8 +4,8 @@ ghost use mathlib.Core.Path.{_≡_};
 ghost use lib.ListN.{drop, length, take};
 ghost use Rattle.protocol.specs.Names.{lettersOf, nameOf};
 ghost use Rattle.listing.specs.Text.{Wrote, decimal};
-use pen::put_bytes;
 use protocol::Message;
+use writers::put_bytes;
 
 // A number's digits, the last in the last place.
 struct Digits {

@@ -6,7 +6,7 @@ use borrow.Author.Needs.{needs}
 use denote.Ref.{now}
 use lib.ListN.{length}
 use Rattle.protocol.specs.Kinds.{frontend}
-use Rattle.pen.proofs.Encoding.{Judged, judged, roomOf, refused, finished}
+use Rattle.writers.proofs.Encoding.{Judged, judged, roomOf, refused, finished}
 use Rattle.encode.specs.Given.{fieldless}
 use Rattle.encode.proofs.Measures as M
 use Rattle.encode.proofs.bare.Statement.{statement}

@@ -11,11 +11,11 @@ use Rattle.protocol.specs.Bytes.{be}
 use Rattle.protocol.specs.Encode.{valuesGiven}
 use Rattle.protocol.specs.Fields.{bytes}
 use Rattle.protocol.specs.Kinds.{values}
-use Rattle.pen.specs.Given.{isSome}
-use Rattle.pen.specs.Writing.{write, Wrote}
-use Rattle.pen.proofs.Laws.{turn, _then_, drop-end}
-use Rattle.pen.proofs.Puts.{same-size}
-use Rattle.pen.proofs.ValueLaws.{value-right, value-over, valuesBytes, values-more, values-are}
+use Rattle.writers.specs.Given.{isSome}
+use Rattle.writers.specs.Writing.{write, Wrote}
+use Rattle.writers.proofs.Laws.{turn, _then_, drop-end}
+use Rattle.writers.proofs.Puts.{same-size}
+use Rattle.writers.proofs.ValueLaws.{value-right, value-over, valuesBytes, values-more, values-are}
 use Rattle.encode.specs.Writing.{WroteGiven}
 use Rattle.encode.proofs.put_values.Statement.{statement}
 use Rattle.encode.proofs.put_values.Tie as tie

@@ -4,8 +4,8 @@ use native.Mathlib.Omega.{arith}
 use borrow.Author.Needs.{needs}
 use Rattle.protocol.specs.Each.{bytesOfEach}
 use Rattle.protocol.specs.WellFormed.{bodyBytes}
-use Rattle.pen.proofs.Encoding.{framed-put}
-use Rattle.pen.proofs.Puts.{none}
+use Rattle.writers.proofs.Encoding.{framed-put}
+use Rattle.writers.proofs.Puts.{none}
 use Rattle.encode.specs.Given.{fieldless}
 use Rattle.encode.proofs.write_bare.Statement.{statement}
 use Rattle.encode.proofs.write_bare.Tie as tie

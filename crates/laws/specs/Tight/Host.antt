@@ -5,7 +5,7 @@ use mathlib.Core.Path.{_≡_}
 use lib.IntN.{ℤ}
 use Rattle.protocol.specs.Decode.{decodeOf}
 use Rattle.protocol.specs.declared.data.FieldDescription.{FieldDescription}
-use Rattle.layout.specs.LaidOut.{laidOut}
+use Rattle.host_layout.specs.LaidOut.{laidOut}
 use Rattle.host.specs.Asked.{Answers, asked, askedLists, askedRow}
 use Rattle.laws.specs.Tight.{Determines, DeterminesBoth}
 

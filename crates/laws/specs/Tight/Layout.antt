@@ -11,7 +11,7 @@ use Rattle.protocol.specs.declared.extendedquery.Bind.{Bind}
 use Rattle.protocol.specs.declared.extendedquery.Execute.{Execute}
 use Rattle.protocol.specs.declared.extendedquery.Parse.{Parse}
 use Rattle.protocol.specs.declared.response.NotificationResponse.{NotificationResponse}
-use Rattle.layout.specs.LaidOut.{bindNumbers, list, needMoreOut, recordOut, refusedOut, signed, span}
+use Rattle.host_layout.specs.LaidOut.{bindNumbers, list, needMoreOut, recordOut, refusedOut, signed, span}
 use Rattle.laws.specs.Tight.{Determines}
 
 pub record LayoutTight : Type 0 where

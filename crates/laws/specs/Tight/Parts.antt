@@ -6,8 +6,8 @@ use lib.IntN.{ℤ}
 use Rattle.protocol.specs.Elements.{elementOf}
 use Rattle.protocol.specs.Kinds as K
 use Rattle.protocol.specs.Reading.{andThen, got, readItem, readValue}
-use Rattle.layout.specs.LaidOut.{elementOut}
-use Rattle.parts.specs.Reads.{LaysRow, errorFieldOut, fieldOut, valueOut}
+use Rattle.host_layout.specs.LaidOut.{elementOut}
+use Rattle.host_parts.specs.Reads.{LaysRow, errorFieldOut, fieldOut, valueOut}
 use Rattle.laws.specs.Tight.{Determines, DeterminesAll}
 
 pub record PartsTight : Type 0 where

@@ -12,8 +12,8 @@ use Rattle.protocol.specs.Fields.{bytes}
 use Rattle.protocol.specs.Kinds.{formats, largeFrame, oids, typed}
 use Rattle.protocol.specs.WellFormed.{header}
 use Rattle.protocol.specs.declared.Encoded.{Encoded}
-use Rattle.pen.specs.Given.{isSome, sizeOf}
-use Rattle.pen.specs.Writing.{Put, verdictOf}
+use Rattle.writers.specs.Given.{isSome, sizeOf}
+use Rattle.writers.specs.Writing.{Put, verdictOf}
 use Rattle.laws.specs.Tight.{Determines, DeterminesBoth}
 
 pub record PenTight : Type 0 where

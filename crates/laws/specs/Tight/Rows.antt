@@ -5,8 +5,8 @@ use mathlib.Core.Path.{_≡_}
 use lib.ListN.{length}
 use Rattle.protocol.specs.declared.Encoded.{Encoded}
 use Rattle.protocol.specs.declared.data.FieldDescription.{FieldDescription}
-use Rattle.rows.specs.Passes as P
-use Rattle.rows.specs.declared.Pen.{Pen}
+use Rattle.row_fields.specs.Passes as P
+use Rattle.row_fields.specs.declared.Pen.{Pen}
 use Rattle.laws.specs.Tight.{Determines, DeterminesBoth}
 
 pub record RowsTight : Type 0 where

@@ -8,8 +8,8 @@ use Rattle.protocol.specs.Each.{ableEach, bytesOfEach}
 use Rattle.protocol.specs.Fields.{able, atomAble, bytes, atomBytes}
 use Rattle.protocol.specs.Kinds as K
 use Rattle.protocol.specs.WellFormed.{bodyBytes, header, frame}
-use Rattle.pen.proofs.Encoding.{short, enough, refused, done}
-use Rattle.pen.proofs.Signs.{bits-of}
+use Rattle.writers.proofs.Encoding.{short, enough, refused, done}
+use Rattle.writers.proofs.Signs.{bits-of}
 use Rattle.encode.specs.Given as G
 use Rattle.encode.proofs.cancel.cancel_request.Statement.{statement}
 use Rattle.encode.proofs.cancel.cancel_request.Tie as tie

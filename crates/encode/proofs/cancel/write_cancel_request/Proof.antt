@@ -7,8 +7,8 @@ use Rattle.protocol.specs.Each.{bytesOfEach}
 use Rattle.protocol.specs.Fields.{bytes, atomBytes}
 use Rattle.protocol.specs.Kinds as K
 use Rattle.protocol.specs.WellFormed.{bodyBytes, header, frame}
-use Rattle.pen.proofs.Encoding.{framed-whole}
-use Rattle.pen.proofs.Puts.{_and_, none}
+use Rattle.writers.proofs.Encoding.{framed-whole}
+use Rattle.writers.proofs.Puts.{_and_, none}
 use Rattle.encode.specs.Given as G
 use Rattle.encode.proofs.cancel.write_cancel_request.Statement.{statement}
 use Rattle.encode.proofs.cancel.write_cancel_request.Tie as tie

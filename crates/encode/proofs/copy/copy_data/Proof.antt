@@ -11,7 +11,7 @@ use Rattle.protocol.specs.Each.{ableEach}
 use Rattle.protocol.specs.Encode.{Encodes}
 use Rattle.protocol.specs.Fields.{able, atomAble}
 use Rattle.protocol.specs.Kinds as K
-use Rattle.pen.proofs.Encoding.{Judged, judged, roomOf, refused, finished}
+use Rattle.writers.proofs.Encoding.{Judged, judged, roomOf, refused, finished}
 use Rattle.encode.specs.Given as G
 use Rattle.encode.proofs.Measures as M
 use Rattle.encode.proofs.Shapes.{asKind}

@@ -3,7 +3,7 @@ use mathlib.Core.Path.{refl}
 use borrow.Author.Needs.{needs}
 use mir.Syntax.{w8}
 use Rattle.protocol.specs.Kinds as K
-use Rattle.pen.proofs.Signs.{bits-of}
+use Rattle.writers.proofs.Signs.{bits-of}
 use Rattle.encode.specs.Given as G
 use Rattle.encode.proofs.Shapes.{asKind}
 use Rattle.encode.proofs.copy.copy_in_response.Statement.{statement}

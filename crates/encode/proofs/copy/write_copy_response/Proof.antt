@@ -9,9 +9,9 @@ use Rattle.protocol.specs.Each.{bytesOfEach}
 use Rattle.protocol.specs.Encode.{items}
 use Rattle.protocol.specs.Fields.{bytes, atomBytes}
 use Rattle.protocol.specs.WellFormed.{bodyBytes}
-use Rattle.pen.proofs.Encoding.{framed-put}
-use Rattle.pen.proofs.Puts.{_and_, none}
-use Rattle.pen.proofs.Signs.{byte-of}
+use Rattle.writers.proofs.Encoding.{framed-put}
+use Rattle.writers.proofs.Puts.{_and_, none}
+use Rattle.writers.proofs.Signs.{byte-of}
 use Rattle.encode.specs.Given as G
 use Rattle.encode.proofs.copy.write_copy_response.Statement.{statement}
 use Rattle.encode.proofs.copy.write_copy_response.Tie as tie

@@ -5,8 +5,8 @@ use denote.Ref.{now}
 use lib.ListN.{length}
 use mir.Syntax.{w32}
 use Rattle.protocol.specs.Kinds as K
-use Rattle.pen.proofs.Encoding.{Judged, judged, roomOf, refused, finished}
-use Rattle.pen.proofs.Signs.{bits-of}
+use Rattle.writers.proofs.Encoding.{Judged, judged, roomOf, refused, finished}
+use Rattle.writers.proofs.Signs.{bits-of}
 use Rattle.encode.specs.Given as G
 use Rattle.encode.proofs.Measures as M
 use Rattle.encode.proofs.extendedquery.execute.Statement.{statement}

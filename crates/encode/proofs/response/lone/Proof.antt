@@ -5,7 +5,7 @@ use borrow.Author.Needs.{needs}
 use Rattle.protocol.specs.Each.{ableEach, bytesOfEach}
 use Rattle.protocol.specs.Kinds as K
 use Rattle.protocol.specs.WellFormed.{bodyBytes, header, frame}
-use Rattle.pen.proofs.Encoding.{short, enough, refused, done, framed-whole}
+use Rattle.writers.proofs.Encoding.{short, enough, refused, done, framed-whole}
 use Rattle.encode.specs.Given as G
 use Rattle.encode.proofs.response.lone.Statement.{statement}
 use Rattle.encode.proofs.response.lone.Tie as tie

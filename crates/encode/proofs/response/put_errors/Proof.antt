@@ -9,10 +9,10 @@ use lib.ListN.{length, getD, drop, length-take, length-drop}
 use Rattle.protocol.specs.Encode.{errorFieldsGiven}
 use Rattle.protocol.specs.Fields.{ended, bytes}
 use Rattle.protocol.specs.Kinds.{errorField}
-use Rattle.pen.specs.Given.{isSome}
-use Rattle.pen.specs.Writing.{write, Wrote}
-use Rattle.pen.proofs.Laws.{turn, _then_}
-use Rattle.pen.proofs.ErrorLaws.{errors-many, error-right, error-over, errorsBytes, errors-more, errors-none, errors-are}
+use Rattle.writers.specs.Given.{isSome}
+use Rattle.writers.specs.Writing.{write, Wrote}
+use Rattle.writers.proofs.Laws.{turn, _then_}
+use Rattle.writers.proofs.ErrorLaws.{errors-many, error-right, error-over, errorsBytes, errors-more, errors-none, errors-are}
 use Rattle.encode.specs.Writing.{WroteGiven}
 use Rattle.encode.proofs.response.put_errors.Statement.{statement}
 use Rattle.encode.proofs.response.put_errors.Tie as tie

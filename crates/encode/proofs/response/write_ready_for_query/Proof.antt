@@ -6,8 +6,8 @@ use Rattle.protocol.specs.Each.{bytesOfEach}
 use Rattle.protocol.specs.Fields.{bytes, atomBytes}
 use Rattle.protocol.specs.Kinds as K
 use Rattle.protocol.specs.WellFormed.{bodyBytes}
-use Rattle.pen.proofs.Encoding.{framed-put}
-use Rattle.pen.proofs.Puts.{_and_, none}
+use Rattle.writers.proofs.Encoding.{framed-put}
+use Rattle.writers.proofs.Puts.{_and_, none}
 use Rattle.encode.specs.Given as G
 use Rattle.encode.proofs.response.write_ready_for_query.Statement.{statement}
 use Rattle.encode.proofs.response.write_ready_for_query.Tie as tie

@@ -5,9 +5,9 @@ use denote.Ref.{now}
 use Rattle.protocol.specs.Each.{bytesOfEach}
 use Rattle.protocol.specs.Encode.{errorFieldsGiven}
 use Rattle.protocol.specs.WellFormed.{bodyBytes}
-use Rattle.pen.proofs.Encoding.{framed-put}
-use Rattle.pen.proofs.GivenLaws.{framed-given}
-use Rattle.pen.proofs.Puts.{_and_, none}
+use Rattle.writers.proofs.Encoding.{framed-put}
+use Rattle.writers.proofs.GivenLaws.{framed-given}
+use Rattle.writers.proofs.Puts.{_and_, none}
 use Rattle.encode.specs.Given as G
 use Rattle.encode.proofs.response.write_report.Statement.{statement}
 use Rattle.encode.proofs.response.write_report.Tie as tie

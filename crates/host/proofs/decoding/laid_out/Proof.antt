@@ -1,5 +1,5 @@
 -- `host::decoding::laid_out` meets its contract: case by case of the answer.
-use Rattle.layout.specs.LaidOut.{laidOut}
+use Rattle.host_layout.specs.LaidOut.{laidOut}
 use borrow.Author.Needs.{needs}
 use Rattle.host.proofs.decoding.laid_out.Statement.{statement}
 use Rattle.host.proofs.decoding.laid_out.Tie as tie

@@ -1,7 +1,7 @@
 -- `host::decoding::record` meets its contract: kind by kind.
-use Rattle.layout.specs.LaidOut.{numbersOf}
+use Rattle.host_layout.specs.LaidOut.{numbersOf}
 use mir.Syntax.{w8}
-use Rattle.layout.proofs.Signs.{back}
+use Rattle.host_layout.proofs.Signs.{back}
 use borrow.Author.Needs.{needs}
 use Rattle.host.proofs.decoding.record.Statement.{statement}
 use Rattle.host.proofs.decoding.record.Tie as tie

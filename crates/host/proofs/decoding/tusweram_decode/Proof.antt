@@ -1,6 +1,6 @@
 -- `host::decoding::tusweram_decode` meets its contract: what decode answers, laid out.
 use mathlib.Core.Path.{ap, _∙_}
-use Rattle.layout.specs.LaidOut.{laidOut}
+use Rattle.host_layout.specs.LaidOut.{laidOut}
 use borrow.Author.Needs.{needs}
 use Rattle.host.proofs.decoding.tusweram_decode.Statement.{statement}
 use Rattle.host.proofs.decoding.tusweram_decode.Tie as tie

@@ -1,0 +1,28 @@
+-- What is known of a frame that is to be written.
+use Prim.Native.Nat.{ℕ, _+_, _≤_, min}
+use mathlib.Core.Bool.{_&&_}
+use mathlib.Core.Path.{_≡_, refl}
+use native.Mathlib.Omega.{arith}
+use borrow.Author.Tests.{leb-true}
+use lib.Dec.{leb, ltb}
+use Rattle.protocol.specs.declared.Encoded.the-variants as N
+use Rattle.protocol.specs.Kinds.{largeFrame}
+use Rattle.writers.specs.Writing.{verdictOf}
+use Rattle.writers.proofs.Encoding.{room-by}
+use Rattle.writers.proofs.Lists.{and-left}
+use Rattle.row_fields.specs.declared.Pen.{Pen}
+use Rattle.row_fields.specs.Passes.{answered}
+
+-- n bytes, for what c measured of count fields
+pub record Roomy (c : Pen) (count room n : ℕ) : Type 0 where
+  pub few : count ≤ 32767
+  pub whole : n ≡ c .at + 7
+  pub small : n ≤ largeFrame
+  pub fits : n ≤ room
+
+pub roomy-of : (c : Pen) (count room n : ℕ) → answered c count room ≡ N.Done n → Roomy c count room n
+unfolding verdictOf
+roomy-of c count room n e =
+    let size = min (c .at + 6) 18446744073709551615 in
+    let h = room-by 1048576 size (size + 1) room n (leb count 32767 && c .ok) (ltb 1048576 size) (ltb room (size + 1)) refl refl e in
+    record { few = leb-true _ _ (and-left (leb count 32767) (c .ok) (h .0)); whole = omega (arith, h); small = omega (arith, h); fits = omega (arith, h) }

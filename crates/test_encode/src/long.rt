@@ -1,0 +1,72 @@
+// Cases in which a byte is given many times.
+ghost use mathlib.Core.Path.{_≡_};
+ghost use lib.ListN.{length};
+use crate::calls;
+use crate::case;
+use crate::case::Case;
+use crate::case::MANY;
+use crate::case::ROOM;
+use protocol::Encoded;
+
+// The length is said, so that a part can be lent.
+pub fn full(byte: u8) -> [u8; ROOM]
+    ensures { λ r. ⌜ 1048580 ≡ length r ⌝ }
+{
+    [byte; ROOM]
+}
+
+fn full_words(word: u32) -> [u32; MANY]
+    ensures { λ r. ⌜ 32768 ≡ length r ⌝ }
+{
+    [word; MANY]
+}
+
+fn full_numbers(number: i32) -> [i32; MANY]
+    ensures { λ r. ⌜ 32768 ≡ length r ⌝ }
+{
+    [number; MANY]
+}
+
+fn full_formats(format: i16) -> [i16; MANY]
+    ensures { λ r. ⌜ 32768 ≡ length r ⌝ }
+{
+    [format; MANY]
+}
+
+fn times(a: u32, b: u32) -> usize {
+    a as usize * b as usize
+}
+
+// So many words, lengths and formats, with the joined bytes that the lengths add up to, and an error's codes; or, where the kind has no list,
+// bytes.
+fn counted(mut case: Case) -> Case {
+    let len = case.len;
+    if case::has_list(case.kind) {
+        case.number_count = len;
+        case.format_count = len;
+        case.joined_len = times((case.start % 256) as u32, (len % 65536) as u32);
+    }
+    if !case::has_list(case.kind) | case::is_error(case.kind) {
+        case.one_len = len;
+    }
+    case
+}
+
+pub fn call(by_boundary: bool, case: Case, out: &mut [u8]) -> Encoded {
+    let byte = (case.start % 256) as u8;
+    let given = case;
+    let bytes = full(byte);
+    let words = full_words(byte as u32);
+    let numbers = full_numbers(byte as i32);
+    let formats = full_formats(codec::signed16(byte as u16));
+    test_readme::call(
+        by_boundary,
+        counted(case),
+        &bytes,
+        &words,
+        &numbers,
+        &formats,
+        &given.results,
+        out,
+    )
+}
