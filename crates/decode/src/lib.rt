@@ -2,6 +2,7 @@
 ghost use mathlib.Core.Path.{_≡_};
 ghost use Rattle.protocol.specs.Bytes.{partOf};
 ghost use Rattle.protocol.specs.Decode.{decodeOf, decodedBy};
+ghost use Rattle.protocol.specs.Rules.{rulesOf};
 
 pub mod header;
 pub mod kinds;
@@ -12,6 +13,7 @@ use kinds::body_of;
 use protocol::Body;
 use protocol::Decoded;
 use protocol::Rules;
+use protocol::rules_of;
 
 // A body's answer with the bytes consumed.
 fn decoded(body: Body, end: usize) -> Decoded
@@ -38,9 +40,9 @@ pub fn decode_by(rules: Rules, buf: &[u8]) -> Decoded
 
 // The first message of a buffer: its record and the bytes consumed, need-more, or a refusal's number and place.
 pub fn decode(mode: u8, buf: &[u8]) -> Decoded
-    ensures { λ r. ⌜ r ≡ decodeOf (record { mode = mode }) (now (buf .entry)) ⌝ }
+    ensures { λ r. ⌜ r ≡ decodeOf (rulesOf mode) (now (buf .entry)) ⌝ }
 {
-    decode_by(Rules { mode }, buf)
+    decode_by(rules_of(mode), buf)
 }
 
 // A string, value or rest as a part of the buffer. What reaches outside the buffer is the empty part.

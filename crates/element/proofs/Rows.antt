@@ -14,7 +14,7 @@ use Rattle.protocol.specs.Reading.{Read, got, bad, andThen, read, readEach, pas
 use Rattle.protocol.proofs.Counts.{counted-is}
 use Rattle.protocol.proofs.Find.{All, find-all, numberOf, tagOf}
 use Rattle.protocol.proofs.Framed.{Framed}
-use Rattle.protocol.proofs.Open.{the-table}
+use Rattle.protocol.specs.Kinds.{the-table}
 use Rattle.element.specs.declared.lists.Lists.{Lists}
 use Rattle.element.specs.declared.lists.Sort.the-variants as S
 use Rattle.element.specs.declared.lists.Sort.{Sort}

@@ -4,6 +4,7 @@ ghost use mathlib.Core.Path.{_≡_};
 ghost use lib.ListN.{length};
 ghost use Rattle.protocol.specs.Elements.{elementAt, elementBy, elementOf, readItemAt, valueOr};
 ghost use Rattle.protocol.specs.Kinds as K;
+ghost use Rattle.protocol.specs.Rules.{rulesOf};
 ghost use Rattle.element.specs.Lists.{Fits, FitsAt, itemOf, listedOf};
 
 pub mod lists;
@@ -29,6 +30,7 @@ use protocol::Rules;
 use protocol::refusal::CUT;
 use protocol::refusal::NO_SUCH_ELEMENT;
 use protocol::refusal::NOT_ALLOWED;
+use protocol::rules_of;
 
 // Items of one size are reached by arithmetic, the others by one walk from the list's start.
 fn oid_at(rules: Rules, frame: &[u8], start: usize, number: usize) -> Element
@@ -139,9 +141,9 @@ pub fn element_by(rules: Rules, buf: &[u8], list: usize, number: usize) -> Eleme
 
 // Element `number` of list `list` of the frame, after decode's own refusal or need-more; 11 where there is no such list or element.
 pub fn element(mode: u8, buf: &[u8], list: usize, number: usize) -> Element
-    ensures { λ r. ⌜ r ≡ elementOf (record { mode = mode }) (now (buf .entry)) list number ⌝ }
+    ensures { λ r. ⌜ r ≡ elementOf (rulesOf mode) (now (buf .entry)) list number ⌝ }
 {
-    element_by(Rules { mode }, buf, list, number)
+    element_by(rules_of(mode), buf, list, number)
 }
 
 // A value's own bytes, or the stand-in where the value is NULL; where there is no value, the empty start of the stand-in.
@@ -152,7 +154,7 @@ pub fn value_or<'a>(
     number: usize,
     stand_in: &'a [u8],
 ) -> &'a [u8]
-    ensures { λ r. ⌜ now r ≡ valueOr (now (buf .entry)) (now (stand_in .entry)) (elementOf (record { mode = mode }) (now (buf .entry)) list number) ⌝ }
+    ensures { λ r. ⌜ now r ≡ valueOr (now (buf .entry)) (now (stand_in .entry)) (elementOf (rulesOf mode) (now (buf .entry)) list number) ⌝ }
 {
     match element(mode, buf, list, number) {
         Element::Value(span) => decode::part(buf, span.start, span.len),

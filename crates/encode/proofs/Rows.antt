@@ -15,6 +15,7 @@ use Rattle.protocol.specs.Each.{ableEach, bytesOfEach}
 use Rattle.protocol.specs.Encode.{Encodes}
 use Rattle.protocol.specs.Fields.{able, bytes, itemsAble, itemsBytes}
 use Rattle.protocol.specs.Kinds as K
+use Rattle.protocol.specs.Rules.{rulesOf}
 use Rattle.protocol.specs.WellFormed.{Contents, bodyBytes, header}
 use Rattle.writers.specs.Writing.{write, Wrote, Framed}
 use Rattle.writers.proofs.Encoding.{Measured, Judged, ableOf, framed, judged, roomOf, refused, finished}
@@ -39,11 +40,11 @@ module _ (fs : List FieldDescription) (run : List ℕ) where
   able-content : (b : Bool) → allInside fs run ≡ b → ableOf K.backend K.rowDescription (content b) ≡ (leb (length fs) 32767 && allNamed fs run)
   unfolding K.backend K.rowDescription content ableOf ableEach able
   able-content true e =
-      let n : itemsAble (record { mode = 1 }) K.rowField (rows fs run) ≡ allNamed fs run =
-      ap (λ (b : Bool). b && itemsAble (record { mode = 1 }) K.rowField (rows fs run)) (sym e) ∙ able-rows (record { mode = 1 }) fs run in
+      let n : itemsAble (rulesOf 1) K.rowField (rows fs run) ≡ allNamed fs run =
+      ap (λ (b : Bool). b && itemsAble (rulesOf 1) K.rowField (rows fs run)) (sym e) ∙ able-rows (rulesOf 1) fs run in
       rw (length-rows fs run, n) (and-true _)
   able-content false e =
-      let n : allNamed fs run ≡ false = sym (able-rows (record { mode = 1 }) fs run) ∙ ap (λ (b : Bool). b && itemsAble (record { mode = 1 }) K.rowField (rows fs run)) e in
+      let n : allNamed fs run ≡ false = sym (able-rows (rulesOf 1) fs run) ∙ ap (λ (b : Bool). b && itemsAble (rulesOf 1) K.rowField (rows fs run)) e in
       rw n (sym (and-false (leb (length fs) 32767)))
 
   size-content : (b : Bool) → allInside fs run ≡ b → (c : Contents K.rowDescription) → content b ≡ some c → length (bodyBytes K.rowDescription c) ≡ 2 + total fs
@@ -75,7 +76,7 @@ module _ (fs : List FieldDescription) (run : List ℕ) where
         let head = header K.typed (K.rowDescription .tag) (n - 5) in
         let mid = write out 0 head in
         let left = begun (N.Done n) (length fs) out in
-        let e : allInside fs run ≡ true = and-left (allInside fs run) (itemsAble (record { mode = 1 }) K.rowField (rows fs run)) (able-rows (record { mode = 1 }) fs run ∙ named) in
+        let e : allInside fs run ≡ true = and-left (allInside fs run) (itemsAble (rulesOf 1) K.rowField (rows fs run)) (able-rows (rulesOf 1) fs run ∙ named) in
         let g : G.rowDescription fs run ≡ content true = given-content ∙ ap content e in
         let long : length left ≡ length out = length-write mid 5 (be 2 (length fs)) ∙ length-write out 0 head in
         let h : Wrote out 0 head 5 mid 5 = record { bytes = refl; size = refl; place = refl } in

@@ -10,6 +10,7 @@ use Rattle.protocol.specs.Each.{Each, ableEach}
 use Rattle.protocol.specs.Encode.{encodedBy, writtenBy, Encodes}
 use Rattle.protocol.specs.Fields.{Field, Content, Slot, able}
 use Rattle.protocol.specs.Kinds.{Kind, Mode}
+use Rattle.protocol.specs.Rules.{rulesOf}
 use Rattle.protocol.specs.WellFormed.{bodyBytes, frame}
 
 abbrev row : ℕ → ℕ → ℕ → (body : List Field) → (Each Slot body → Message) → Kind
@@ -18,7 +19,7 @@ row tag least limit body message = record { tag = tag; smallest = least; limit =
 -- in any mode of such frames in which the content can be written as well
 pub asKind : {m : Mode} {tag least limit : ℕ} {body : List Field} {any : Each Slot body → Message} {c : Each Content body} {out left : List ℕ} {r : Encoded}
     → Encodes m (row tag least limit body any) (some c) out r left → (m′ : Mode) (message : Each Slot body → Message) → m′ .envelope ≡ m .envelope
-    → ableEach (able (record { mode = m′ .mode })) body c ≡ ableEach (able (record { mode = m .mode })) body c
+    → ableEach (able (rulesOf (m′ .mode))) body c ≡ ableEach (able (rulesOf (m .mode))) body c
     → Encodes m′ (row tag least limit body message) (some c) out r left
 unfolding encodedBy writtenBy bodyBytes frame
 asKind {m} {tag} {least} {limit} {body} {any} {c} {out} {left} {r} e m′ message is same =

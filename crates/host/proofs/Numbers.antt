@@ -12,6 +12,7 @@ use Rattle.protocol.specs.declared.Encoded.the-variants as N
 use Rattle.protocol.specs.Encode.{encodedBy}
 use Rattle.protocol.specs.Kinds.{Kind, Mode}
 use Rattle.protocol.specs.Refusals.{lengthAboveLimit, outputTooShort, notRepresentable}
+use Rattle.protocol.specs.Rules.{rulesOf}
 use Rattle.protocol.specs.WellFormed.{Contents, bodyBytes, lengthOf, frame, allAble}
 use Rattle.host.specs.Asked.{Asked, encodedAs, answerNumber, answerBy, answerOf}
 
@@ -32,7 +33,7 @@ module _ (room : ℕ) (small : room < 18446744073709551360) where
   unfolding encodedBy
   by-given m k none = refl
   by-given m k (some c) =
-      by-tests (allAble (record { mode = m .mode }) k c) (ltb (k .limit) (lengthOf (m .envelope) (length (bodyBytes k c)))) (ltb room (length (frame (m .envelope) k c))) (length (frame (m .envelope) k c)) refl
+      by-tests (allAble (rulesOf (m .mode)) k c) (ltb (k .limit) (lengthOf (m .envelope) (length (bodyBytes k c)))) (ltb room (length (frame (m .envelope) k c))) (length (frame (m .envelope) k c)) refl
 
   by-asked : (a : Option Asked) → answerBy (answerNumber (encodedAs a room)) ≡ encodedAs a room
   unfolding encodedAs

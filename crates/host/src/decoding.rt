@@ -1,6 +1,7 @@
 // Decoding, for a host.
 ghost use mathlib.Core.Path.{_≡_};
 ghost use Rattle.protocol.specs.Decode.{decodeOf};
+ghost use Rattle.protocol.specs.Rules.{rulesOf};
 ghost use Rattle.host_layout.specs.LaidOut.{gssNumber, laidOut, numbersOf, recordOut, sslNumber};
 use host_layout::rows;
 use protocol::Decoded;
@@ -76,7 +77,7 @@ fn laid_out(decoded: Decoded) -> [usize; 16]
 // The first message of a buffer, as decode::decode answers it.
 #[no_mangle]
 pub extern "C" fn tusweram_decode(mode: u8, buf: &[u8], out: &mut [usize; 16])
-    ensures { λ _. ⌜ now (out .exit) ≡ laidOut (decodeOf (record { mode = mode }) (now (buf .entry))) ⌝ }
+    ensures { λ _. ⌜ now (out .exit) ≡ laidOut (decodeOf (rulesOf mode) (now (buf .entry))) ⌝ }
 {
     *out = laid_out(decode::decode(mode, buf));
 }

@@ -12,6 +12,7 @@ use Rattle.protocol.specs.Each.{Each}
 use Rattle.protocol.specs.Fields.{AtomSlot}
 use Rattle.protocol.specs.Kinds.{errorField}
 use Rattle.protocol.specs.Reading.{Read, got, bad}
+use Rattle.protocol.specs.Rules.{rulesOf}
 use Rattle.reader.specs.Row.{lengthsOf, over, placesIn, rowBy, startsOf}
 use Rattle.reader.specs.declared.row.Row.the-variants as R
 use Rattle.reader.specs.declared.row.Row.{Row}
@@ -40,7 +41,7 @@ rowOut (R.Refused number place) = refusedOut 16 number place
 
 -- what the reader answers for lists of some length
 abbrev pub rowRead : List ℕ → List ℕ → List ℤ → Row
-rowRead s starts lengths = rowBy (decodeOf (record { mode = 1 }) s) (length starts) (length lengths)
+rowRead s starts lengths = rowBy (decodeOf (rulesOf 1) s) (length starts) (length lengths)
 
 -- what is promised of the answer and of the two lists, before and after
 pub record LaysRow (s starts₀ : List ℕ) (lengths₀ : List ℤ) (starts₁ : List ℕ) (lengths₁ : List ℤ) (out : List ℕ) : Type 0 where

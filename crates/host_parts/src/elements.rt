@@ -5,6 +5,7 @@ ghost use Rattle.protocol.specs.Bytes.{bitsOf};
 ghost use Rattle.protocol.specs.Elements.{elementOf};
 ghost use Rattle.protocol.specs.Kinds as K;
 ghost use Rattle.protocol.specs.Reading.{andThen, got, readItem};
+ghost use Rattle.protocol.specs.Rules.{rulesOf};
 ghost use Rattle.items.specs.Answers.{errorRead, fieldRead};
 ghost use Rattle.host_layout.specs.LaidOut.{elementOut, fieldNumbers, recordOut};
 ghost use Rattle.host_parts.specs.Reads.{errorFieldOut, fieldOut};
@@ -16,9 +17,9 @@ use items::data::field_description;
 use items::response::ErrorStep;
 use items::response::error_field;
 use protocol::Element;
-use protocol::Rules;
 use protocol::data::FieldDescription;
 use protocol::refusal::CUT;
+use protocol::rules_of;
 
 // A narrow number's bits, as those of a wide one.
 fn half(x: i16) -> usize
@@ -80,7 +81,7 @@ pub extern "C" fn tusweram_element(
     number: usize,
     out: &mut [usize; 16],
 )
-    ensures { λ _. ⌜ now (out .exit) ≡ elementOut (elementOf (record { mode = mode }) (now (buf .entry)) list number) ⌝ }
+    ensures { λ _. ⌜ now (out .exit) ≡ elementOut (elementOf (rulesOf mode) (now (buf .entry)) list number) ⌝ }
 {
     *out = laid_out(element::element(mode, buf, list, number));
 }
@@ -97,9 +98,9 @@ fn field_numbers(step: FieldStep) -> [usize; 16]
 // The field of a row at a place of a frame, with the next place: all of a row's fields in one pass.
 #[no_mangle]
 pub extern "C" fn tusweram_field(frame: &[u8], at: usize, out: &mut [usize; 16])
-    ensures { λ _. ⌜ now (out .exit) ≡ fieldOut (andThen (readItem (record { mode = 1 }) K.rowField (now (frame .entry)) at) (λ s q. got (K.rowFieldOf s) q)) ⌝ }
+    ensures { λ _. ⌜ now (out .exit) ≡ fieldOut (andThen (readItem (rulesOf 1) K.rowField (now (frame .entry)) at) (λ s q. got (K.rowFieldOf s) q)) ⌝ }
 {
-    *out = field_numbers(field_description(Rules { mode: 1 }, frame, Cursor { at }));
+    *out = field_numbers(field_description(rules_of(1), frame, Cursor { at }));
 }
 
 fn error_numbers(step: ErrorStep) -> [usize; 16]
@@ -114,7 +115,7 @@ fn error_numbers(step: ErrorStep) -> [usize; 16]
 // The field of an error at a place of a frame, with the next place.
 #[no_mangle]
 pub extern "C" fn tusweram_error_field(frame: &[u8], at: usize, out: &mut [usize; 16])
-    ensures { λ _. ⌜ now (out .exit) ≡ errorFieldOut (readItem (record { mode = 1 }) K.errorField (now (frame .entry)) at) ⌝ }
+    ensures { λ _. ⌜ now (out .exit) ≡ errorFieldOut (readItem (rulesOf 1) K.errorField (now (frame .entry)) at) ⌝ }
 {
-    *out = error_numbers(error_field(Rules { mode: 1 }, frame, Cursor { at }));
+    *out = error_numbers(error_field(rules_of(1), frame, Cursor { at }));
 }

@@ -17,6 +17,7 @@ use Rattle.protocol.specs.Bytes.{Bytes, noZero, isOneOf, be, signedOf, bitsOf}
 use Rattle.protocol.specs.Fields.{Atom, unsigned, signed, oneOf, text, value, rest, AtomContent, AtomSlot, ValueInRange, AtomInRange, atomAble, valueBytes, atomBytes, valueSlot, atomSlot}
 use Rattle.protocol.specs.Reading.{Read, got, bad, andThen, readNumber, oneMore, zeroIn, textAt, readText, valueAt, readValue, readAtom}
 use Rattle.protocol.specs.Refusals.{cut, notAllowed}
+use Rattle.protocol.specs.Rules.{rulesOf}
 use Rattle.protocol.proofs.Numbers.{lower, whole}
 use Rattle.laws.specs.Faults.{LastAtom}
 use Rattle.laws.proofs.EachReads.{ReadsBack, Was}
@@ -79,7 +80,7 @@ some-back s pre post h =
     let q : length pre + 4 + length s ≡ length pre + length (be 4 (length s) ++ s) = simp (length-append, length-be) (omega arith) in
     rw (append-assoc (be 4 (length s)) s post, number-back 4 (length s) pre (s ++ post) (omega arith), lower 4 (length s) h, le-leb _ _ l, q) refl
 
-rest-back : (s pre post : List ℕ) → post ≡ [] → readAtom (record { mode = 0 }) rest (pre ++ (s ++ post)) (length pre) ≡ got (record { start = length pre; len = length s }) (length pre + length s)
+rest-back : (s pre post : List ℕ) → post ≡ [] → readAtom (rulesOf 0) rest (pre ++ (s ++ post)) (length pre) ≡ got (record { start = length pre; len = length s }) (length pre + length s)
 rest-back s pre post e =
     let l : length (pre ++ (s ++ post)) ≡ length pre + length s = rw e (simp (append-nil, length-append) refl) in
     let d : length (pre ++ (s ++ post)) - length pre ≡ length s = omega (arith, l) in

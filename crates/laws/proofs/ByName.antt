@@ -24,7 +24,7 @@ use Rattle.protocol.specs.Fields.{AtomInRange, atomSlot, valueSlot, Item, ItemC
 use Rattle.protocol.specs.Kinds as K
 use Rattle.protocol.specs.Kinds.{Kind, oid, format, nullable, rowField, errorField, valueElement}
 use Rattle.protocol.specs.WellFormed.{Contents, AllInRange, bodyStart, recordOf}
-use Rattle.protocol.proofs.Open.{the-table}
+use Rattle.protocol.specs.Kinds.{the-table}
 use Rattle.encode.specs.Given as G
 use Rattle.laws.specs.Arguments.{nth, sizeOf, itself, total, valueAt}
 use Rattle.laws.specs.ByName.{Back, ListIs, Oids, Formats, ValueIs, Values, FieldIs, RowFields, ErrorFields, theCodec, ComesBack, Bare, ByName}

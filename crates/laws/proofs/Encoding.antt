@@ -19,6 +19,7 @@ use Rattle.protocol.specs.Encode.{encodedBy, writtenBy}
 use Rattle.protocol.specs.Fields.{Atom, unsigned, signed, oneOf, text, value, rest, AtomContent, atomAble, Item, ItemContent, itemAble, itemsAble, Field, one, counted, ended, Content, able, least}
 use Rattle.protocol.specs.Kinds.{Envelope, typed, untyped, bare, Kind, Mode, modes, IsIn}
 use Rattle.protocol.specs.Refusals.{lengthAboveLimit, outputTooShort, notRepresentable}
+use Rattle.protocol.specs.Rules.{rulesOf}
 use Rattle.protocol.specs.WellFormed.{Contents, bodyBytes, header, lengthOf, frame, allAble, WellFormed}
 use Rattle.laws.specs.EncodeStatements.{theEncoder, Contracts, Representable, WithinLimit, HasRoom, EncodesExactly, Exactly, KeepsTheRest, Unchanged, Decodes, RoundTrip}
 use Rattle.laws.specs.Statements.{theDecoder, theElementCall}
@@ -139,7 +140,7 @@ module _ (m : Mode) (k : Kind) where
   word c = lengthOf (m .envelope) (length (bodyBytes k c))
 
   abbrev canBe : Contents k → Bool
-  canBe c = allAble (record { mode = m .mode }) k c
+  canBe c = allAble (rulesOf (m .mode)) k c
 
   verdict : (c : Contents k) (out : List ℕ) → Judged (Representable m k (some c)) (WithinLimit m k (some c)) (HasRoom m k (some c) out) (theEncoder m k (some c) out .answer) (size c)
   unfolding encodedBy
@@ -280,7 +281,7 @@ round-trip m k c out t n i j inRange e rules reads i2 is j2 =
       mode = is;
       kind = j2;
       inRange = inRange;
-      writable = able-any rules (record { mode = m .mode }) k c ∙ able;
+      writable = able-any rules (rulesOf (m .mode)) k c ∙ able;
       withinLimit = rw (← same) most;
     } in
     rw (written m k c out n (is-done e), ok .1, same) (decodes rules reads k c t w)

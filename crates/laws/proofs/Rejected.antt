@@ -20,6 +20,7 @@ use Rattle.protocol.specs.Each.{bytesOfEach, ableEach, HoldsEach}
 use Rattle.protocol.specs.Elements.{listIn, elementBy, elementAt, elementIn, elementOf}
 use Rattle.protocol.specs.Encode.{encodedBy, writtenBy}
 use Rattle.protocol.specs.Kinds.{typed, backend, parseComplete, valueElement}
+use Rattle.protocol.specs.Rules.{rulesOf}
 use Rattle.protocol.specs.WellFormed.{bodyStart, bodyBytes, header, frame, recordOf}
 use Rattle.protocol.proofs.Open.{the-decoding}
 use Rattle.laws.specs.Items.{Found, found, Answers}
@@ -63,7 +64,7 @@ same-element call h rules s r n b e l i =
 -- ---- the builds
 
 abbrev mode : ℕ → Rules
-mode n = record { mode = n }
+mode n = rulesOf n
 
 abbrev five-bytes : List ℕ
 five-bytes = 0 ∷ 0 ∷ 0 ∷ 0 ∷ 0 ∷ []

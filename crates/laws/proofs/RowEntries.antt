@@ -27,10 +27,11 @@ use Rattle.protocol.specs.Each.{Each}
 use Rattle.protocol.specs.Kinds.{Kind, backend, modeOf, kindIn, find, dataRow, nullable, values, valueElement}
 use Rattle.protocol.specs.Reading.{Read, got, bad, andThen, readNumber, valueAt, readValue, readEach, readCount, readCounted, passItems, read}
 use Rattle.protocol.specs.Refusals.{bytesLeft, outputTooShort}
+use Rattle.protocol.specs.Rules.{rulesOf}
 use Rattle.protocol.proofs.Counts.{counted-is}
 use Rattle.protocol.proofs.Find.{All, find-all, tagOf}
 use Rattle.protocol.proofs.Framed.{framed-is}
-use Rattle.protocol.proofs.Open.{the-table}
+use Rattle.protocol.specs.Kinds.{the-table}
 use Rattle.element.specs.Lists.{listsOf}
 use Rattle.element.proofs.Calls.{answered-as}
 use Rattle.reader.specs.declared.row.Row.the-variants as R
@@ -183,7 +184,7 @@ module _ (rules : Rules) (f : List ℕ) where
   all-pass = (λ p q s r e m. let z : _≡_ {A = ℕ} 0 1 = cc in absurd (omega arith), (λ p q s r e m. let z : _≡_ {A = ℕ} 0 1 = cc in absurd (omega arith), (λ p q s r e m. let z : _≡_ {A = ℕ} 0 1 = cc in absurd (omega arith), (λ p q s r e m. let z : _≡_ {A = ℕ} 0 1 = cc in absurd (omega arith), (λ p q s r e m. let z : _≡_ {A = ℕ} 0 1 = cc in absurd (omega arith), (λ p q s r e m. let z : _≡_ {A = ℕ} 0 1 = cc in absurd (omega arith), (λ p q s r e m. let z : _≡_ {A = ℕ} 0 1 = cc in absurd (omega arith), (λ p q s r e m. let z : _≡_ {A = ℕ} 0 1 = cc in absurd (omega arith), (λ p q s r e m. let z : _≡_ {A = ℕ} 0 1 = cc in absurd (omega arith), (row-passes, (λ p q s r e m. let z : _≡_ {A = ℕ} 0 1 = cc in absurd (omega arith), (λ p q s r e m. let z : _≡_ {A = ℕ} 0 1 = cc in absurd (omega arith), (λ p q s r e m. let z : _≡_ {A = ℕ} 0 1 = cc in absurd (omega arith), (λ p q s r e m. let z : _≡_ {A = ℕ} 0 1 = cc in absurd (omega arith), (λ p q s r e m. let z : _≡_ {A = ℕ} 0 1 = cc in absurd (omega arith), (λ p q s r e m. let z : _≡_ {A = ℕ} 0 1 = cc in absurd (omega arith), (λ p q s r e m. let z : _≡_ {A = ℕ} 0 1 = cc in absurd (omega arith), (λ p q s r e m. let z : _≡_ {A = ℕ} 0 1 = cc in absurd (omega arith), (λ p q s r e m. let z : _≡_ {A = ℕ} 0 1 = cc in absurd (omega arith), tt)))))))))))))))))))
 
 abbrev fromBackend : Rules
-fromBackend = record { mode = 1 }
+fromBackend = rulesOf 1
 
 module _ (s : List ℕ) (row : DataRow) (n : ℕ) where
   abbrev Were : Type 0

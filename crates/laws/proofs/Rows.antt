@@ -7,7 +7,7 @@ use Rattle.protocol.specs.Each.{leastOfEach}
 use Rattle.protocol.specs.Fields.{itemLeast}
 use Rattle.protocol.specs.Kinds.{Envelope, typed, untyped, bare, Kind, Mode, modes, IsIn}
 use Rattle.protocol.proofs.Find.{every}
-use Rattle.protocol.proofs.Open.{the-table}
+use Rattle.protocol.specs.Kinds.{the-table}
 use Rattle.laws.proofs.Bodies.{saneField, restLast}
 use Rattle.laws.proofs.Table.{and-left, and-right, every-in}
 

@@ -13,7 +13,7 @@ use Rattle.protocol.specs.Each.{Each}
 use Rattle.protocol.specs.Elements.{valueOr}
 use Rattle.protocol.specs.Fields.{Atom, unsigned, signed, oneOf, text, value, rest, AtomSlot, Item, ItemContent, itemBytes, Field, one, counted, ended, Content}
 use Rattle.protocol.specs.Kinds.{Kind, Mode, modes, IsIn, bind, dataRow, oid, format, nullable, rowField, errorField, valueElement}
-use Rattle.protocol.proofs.Open.{the-table}
+use Rattle.protocol.specs.Kinds.{the-table}
 use Rattle.laws.specs.ElementStatements.{HasValues}
 use Rattle.laws.specs.Items.{Found, itemFrom, found}
 use Rattle.laws.proofs.Items.{both}

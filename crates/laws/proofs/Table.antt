@@ -15,7 +15,7 @@ use Rattle.protocol.specs.Fields.{least}
 use Rattle.protocol.specs.Kinds.{Envelope, Kind, Mode, modes, IsIn, find, modeOf, kindIn, nullable, valueElement}
 use Rattle.protocol.specs.WellFormed.{lengthOf}
 use Rattle.protocol.proofs.Find.{every, numberOf, tagOf}
-use Rattle.protocol.proofs.Open.{the-table}
+use Rattle.protocol.specs.Kinds.{the-table}
 use Rattle.laws.specs.FieldNames.{orNull, _∶_, elementFields}
 use Rattle.laws.specs.Document.{RecordNamed, ItemNamed, ItemsNamed}
 use Rattle.laws.specs.Statements.{Table}

@@ -10,6 +10,7 @@ use Rattle.protocol.specs.declared.Message.the-variants as M
 use Rattle.protocol.specs.declared.Message.{Message}
 use Rattle.protocol.specs.declared.Rules.{Rules}
 use Rattle.protocol.specs.Answers.{Answer, success, needsMore, refusal, ofDecoded, ofElement}
+use Rattle.protocol.specs.Rules.{rulesOf}
 
 -- an element that a line names: list number, element number, and the element
 pub record Named : Type 0 where
@@ -68,6 +69,6 @@ Gives call (x ∷ xs) = (ofElement (call (x .list) (x .number)) ≡ success (x .
 abbrev pub Answered : (Rules → List ℕ → Decoded) → (Rules → List ℕ → ℕ → ℕ → Element) → List Edge → Type 0
 Answered decode call [] = Unit {0}
 Answered decode call (e ∷ es) =
-    (ofDecoded (decode (record { mode = e .mode }) (e .bytes)) ≡ e .answer)
-    × Gives (call (record { mode = e .mode }) (e .bytes)) (e .elements)
+    (ofDecoded (decode (rulesOf (e .mode)) (e .bytes)) ≡ e .answer)
+    × Gives (call (rulesOf (e .mode)) (e .bytes)) (e .elements)
     × Answered decode call es

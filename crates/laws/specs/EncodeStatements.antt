@@ -20,6 +20,7 @@ use Rattle.protocol.specs.Encode.{writtenBy}
 use Rattle.protocol.specs.Fields.{ItemContent, ItemsInRange, bytes, slot}
 use Rattle.protocol.specs.Kinds.{Kind, Mode, modes, IsIn, oid, format, nullable, rowField, errorField}
 use Rattle.protocol.specs.Refusals.{lengthAboveLimit, outputTooShort, notRepresentable}
+use Rattle.protocol.specs.Rules.{rulesOf}
 use Rattle.protocol.specs.WellFormed.{Contents, bodyBytes, bodyStart, lengthOf, frame, AllInRange, allAble, recordOf}
 use Rattle.laws.specs.Arguments.{nth, Some, All, Unsigned, Signed, TypedField, itself, sizeOf, total, BelowNull, valueAt, Outside}
 use Rattle.laws.specs.Items.{found, Answers}
@@ -48,7 +49,7 @@ Contracts encode =
 
 -- 1. Exactly. The arguments are a content that can be written; its length is within the limit; and there is room.
 abbrev pub Representable : Mode → (k : Kind) → Option (Contents k) → Type 0
-Representable m k given = (c : Contents k) × (given ≡ some c) × (allAble (record { mode = m .mode }) k c ≡ true)
+Representable m k given = (c : Contents k) × (given ≡ some c) × (allAble (rulesOf (m .mode)) k c ≡ true)
 
 abbrev pub WithinLimit : Mode → (k : Kind) → Option (Contents k) → Type 0
 WithinLimit m k given = (c : Contents k) × (given ≡ some c) × (lengthOf (m .envelope) (length (bodyBytes k c)) ≤ k .limit)

@@ -22,6 +22,7 @@ use Rattle.protocol.specs.Fields.{Atom, unsigned, signed, oneOf, text, value, r
 use Rattle.protocol.specs.Kinds.{Kind, Mode}
 use Rattle.protocol.specs.Reading.{Read, got, readNumber, readText, readValue}
 use Rattle.protocol.specs.Refusals.{outputTooShort, noSuchElement}
+use Rattle.protocol.specs.Rules.{rulesOf}
 use Rattle.protocol.specs.WellFormed.{Contents, WellFormed, bodyStart, frame}
 use Rattle.reader.specs.declared.row.Row.{Row}
 use Rattle.reader.specs.Row.{ofRow, ReadsRow}
@@ -81,13 +82,13 @@ InOrder reader =
 -- What is answered: decode's own need-more or refusal; then 11 where the message is no DataRow, and 9 where a list is too short, each at 0; else the
 -- row's values and the bytes consumed.
 pub record RowAnswered (decode : Decoder) (s starts : List ℕ) (lengths : List ℤ) (a : Answer ListSlot) : Type 0 where
-  pub needMore : ofDecoded (decode (record { mode = 1 }) s) ≡ needsMore → a ≡ needsMore
-  pub refused : (number place : ℕ) → ofDecoded (decode (record { mode = 1 }) s) ≡ refusal number place → a ≡ refusal number place
-  pub other : (m : Message) (n : ℕ) → ofDecoded (decode (record { mode = 1 }) s) ≡ success m n
+  pub needMore : ofDecoded (decode (rulesOf 1) s) ≡ needsMore → a ≡ needsMore
+  pub refused : (number place : ℕ) → ofDecoded (decode (rulesOf 1) s) ≡ refusal number place → a ≡ refusal number place
+  pub other : (m : Message) (n : ℕ) → ofDecoded (decode (rulesOf 1) s) ≡ success m n
       → ((r : DataRow) → m ≡ M.DataRow r → ⊥) → a ≡ refusal noSuchElement 0
-  pub short : (r : DataRow) (n : ℕ) → ofDecoded (decode (record { mode = 1 }) s) ≡ success (M.DataRow r) n
+  pub short : (r : DataRow) (n : ℕ) → ofDecoded (decode (rulesOf 1) s) ≡ success (M.DataRow r) n
       → (length starts < r .«data» .count) ⊎ (length lengths < r .«data» .count) → a ≡ refusal outputTooShort 0
-  pub row : (r : DataRow) (n : ℕ) → ofDecoded (decode (record { mode = 1 }) s) ≡ success (M.DataRow r) n
+  pub row : (r : DataRow) (n : ℕ) → ofDecoded (decode (rulesOf 1) s) ≡ success (M.DataRow r) n
       → r .«data» .count ≤ length starts → r .«data» .count ≤ length lengths → a ≡ success (r .«data») n
 
 abbrev pub RowAnswers : Decoder → Type 0
@@ -103,7 +104,7 @@ elementAs start (negsuc n) = E.Null
 pub record RowIs (call : ElementCall) (s starts₀ starts₁ : List ℕ) (lengths₀ lengths₁ : List ℤ) (count : ℕ) : Type 0 where
   pub entry : (i : ℕ) → i < count
       → (start : ℕ) × (length : ℤ) × (nth starts₁ i ≡ some start) × (nth lengths₁ i ≡ some length)
-      × (ofElement (call (record { mode = 1 }) s 0 i) ≡ success (elementAs start length) 0)
+      × (ofElement (call (rulesOf 1) s 0 i) ≡ success (elementAs start length) 0)
   pub starts : (i : ℕ) → count ≤ i → nth starts₁ i ≡ nth starts₀ i
   pub lengths : (i : ℕ) → count ≤ i → nth lengths₁ i ≡ nth lengths₀ i
 

@@ -21,6 +21,7 @@ use Rattle.protocol.specs.Fields.{Field, one, counted, ended, Slot}
 use Rattle.protocol.specs.Kinds.{Kind, Mode}
 use Rattle.protocol.specs.Reading.{Read, got, andThen, readEach, readCount, passItems, read}
 use Rattle.protocol.specs.Refusals.{typeUnknown, lengthAboveLimit, outputTooShort, notRepresentable}
+use Rattle.protocol.specs.Rules.{rulesOf}
 use Rattle.protocol.specs.WellFormed.{Contents, frame}
 
 -- ---- decoders
@@ -37,7 +38,7 @@ fixedRecord rules s = D.Record M.Sync 5
 
 -- every buffer is read as a frontend's
 abbrev pub ignoresTheMode : Rules → List ℕ → Decoded
-ignoresTheMode rules s = decodeOf (record { mode = 0 }) s
+ignoresTheMode rules s = decodeOf (rulesOf 0) s
 
 -- an invented byte count
 abbrev five : Decoded → Decoded

@@ -7,6 +7,7 @@ use native.Mathlib.Omega.{arith}
 use lib.ListN.{length, drop, length-drop}
 use Rattle.protocol.specs.declared.Message.{Message}
 use Rattle.protocol.specs.declared.Rules.{Rules}
+use Rattle.protocol.specs.Rules.{rulesOf}
 use Rattle.protocol.specs.Stream.{Step, frame, stop, Stream, stepAt, streamBy, streamFrom}
 use Rattle.listing.specs.declared.Left.the-variants as L
 use Rattle.listing.specs.declared.Left.{Left}
@@ -36,7 +37,7 @@ module _ (rules : Rules) (s : List ℕ) where
 
 module _ (input : List ℕ) (mode : ℕ) (known : openingOf input ≡ O.Mode mode) where
   abbrev rules : Rules
-  rules = record { mode = mode }
+  rules = rulesOf mode
 
   abbrev s : List ℕ
   s = drop 1 input
@@ -93,20 +94,20 @@ nothing-stays (suc k) input = nothing-stays k input
 
 -- each line takes a byte of the stream at least, and one more line is the end
 module _ (input : List ℕ) where
-  step-ends : (mode k p : ℕ) (x : Step) → stepAt (record { mode = mode }) (drop 1 input) p ≡ x → length (drop 1 input) < p + suc k
+  step-ends : (mode k p : ℕ) (x : Step) → stepAt (rulesOf mode) (drop 1 input) p ≡ x → length (drop 1 input) < p + suc k
       → ((q : ℕ) → q ≤ length (drop 1 input) → length (drop 1 input) < q + k → linesOf k input (L.From q) .left ≡ L.Nothing)
       → linesOf k input (stepLine p x .left) .left ≡ L.Nothing
   unfolding stepLine
   step-ends mode k p (stop e) q h later = nothing-stays k input
   step-ends mode k p (frame m n) q h later =
-      let z = frame-size (record { mode = mode }) (drop 1 input) p q in
+      let z = frame-size (rulesOf mode) (drop 1 input) p q in
       later (p + n) (z .1) (omega (arith, z .0))
 
   line-ends : (o : Opening) (k p : ℕ) → length (drop 1 input) < p + suc k
       → ((q : ℕ) → q ≤ length (drop 1 input) → length (drop 1 input) < q + k → linesOf k input (L.From q) .left ≡ L.Nothing)
       → linesOf k input (lineFrom o (drop 1 input) p .left) .left ≡ L.Nothing
   unfolding lineFrom
-  line-ends (O.Mode mode) k p h later = step-ends mode k p (stepAt (record { mode = mode }) (drop 1 input) p) refl h later
+  line-ends (O.Mode mode) k p h later = step-ends mode k p (stepAt (rulesOf mode) (drop 1 input) p) refl h later
   line-ends O.NoMode k p h later = nothing-stays k input
   line-ends O.Oversize k p h later = nothing-stays k input
 

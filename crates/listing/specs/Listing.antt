@@ -10,6 +10,7 @@ use Rattle.protocol.specs.declared.Message.{Message}
 use Rattle.protocol.specs.Answers.{Answer, success, needsMore, refusal}
 use Rattle.protocol.specs.Kinds.{Mode, modes, find}
 use Rattle.protocol.specs.Names.{nameOf, lettersOf}
+use Rattle.protocol.specs.Rules.{rulesOf}
 use Rattle.protocol.specs.Stream as Stream
 use Rattle.protocol.specs.Stream.{End, whole, needMore, refused, frame, stop, Framed, Stream, stepAt, streamFrom}
 use Rattle.writers.specs.Writing.{write}
@@ -92,7 +93,7 @@ openingOf [] = O.NoMode
 openingOf (digit ∷ s) = openingBy (find digitOf digit modes) (length s)
 
 abbrev pub textFrom : Opening → List ℕ → ℕ → List ℕ
-textFrom (O.Mode mode) s p = streamText (streamFrom (record { mode = mode }) (length s - p) s p)
+textFrom (O.Mode mode) s p = streamText (streamFrom (rulesOf mode) (length s - p) s p)
 textFrom O.NoMode s p = endMode
 textFrom O.Oversize s p = endOversize
 
@@ -118,7 +119,7 @@ stepLine p (frame m n) = record { text = frameLine p m n; left = L.From (p + n) 
 stepLine p (stop e) = record { text = endLine e p; left = L.Nothing }
 
 unfoldable pub lineFrom : Opening → List ℕ → ℕ → Lines
-lineFrom (O.Mode mode) s p = stepLine p (stepAt (record { mode = mode }) s p)
+lineFrom (O.Mode mode) s p = stepLine p (stepAt (rulesOf mode) s p)
 lineFrom O.NoMode s p = record { text = endMode; left = L.Nothing }
 lineFrom O.Oversize s p = record { text = endOversize; left = L.Nothing }
 

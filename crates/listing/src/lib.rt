@@ -2,6 +2,7 @@
 ghost use Prim.Native.Nat.{_+_, _/_, _≤_};
 ghost use mathlib.Core.Path.{_≡_};
 ghost use lib.ListN.{drop, length};
+ghost use Rattle.protocol.specs.Rules.{rulesOf};
 ghost use Rattle.protocol.specs.Stream.{stepAt};
 ghost use Rattle.listing.specs.Listing.{Fills, Lined, lineFrom, lineOf, linesOf, openingOf, sized, stepLine, stepOf};
 
@@ -49,7 +50,7 @@ pub struct Filled {
 
 // What stands at a place of a stream.
 pub fn step_at(mode: u8, stream: &[u8], at: usize) -> Step
-    ensures { λ r. ⌜ stepOf r ≡ stepAt (record { mode = mode }) (now (stream .entry)) at ⌝ }
+    ensures { λ r. ⌜ stepOf r ≡ stepAt (rulesOf mode) (now (stream .entry)) at ⌝ }
 {
     if stream.len() <= at {
         return Step::Whole;
@@ -99,7 +100,7 @@ struct Line {
 // The line at a place of a stream.
 fn put_step(mode: u8, stream: &[u8], place: usize, out: &mut [u8], at: usize) -> Line
     requires { ⌜ at + 64 ≤ length (now out) ⌝ }
-    ensures { λ r. ⌜ Lined (stepLine place (stepAt (record { mode = mode }) (now (stream .entry)) place)) (now (out .entry)) at (now (out .exit)) r ⌝ }
+    ensures { λ r. ⌜ Lined (stepLine place (stepAt (rulesOf mode) (now (stream .entry)) place)) (now (out .entry)) at (now (out .exit)) r ⌝ }
 {
     match step_at(mode, stream, place) {
         Step::Frame(message, bytes) => {

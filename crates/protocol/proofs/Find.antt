@@ -2,6 +2,7 @@
 use Prim.Native.Nat.{ℕ}
 use mathlib.Core.Bool.{Bool, true, false, cond, _&&_}
 use mathlib.Core.List.{List, [], _∷_}
+use mathlib.Core.Logic.{inl, inr}
 use mathlib.Core.Option.{some, none}
 use mathlib.Core.Path.{_≡_, refl, ap, sym}
 use native.Mathlib.Omega.{arith}
@@ -10,7 +11,7 @@ use lib.Dec.{T, eqb}
 use Rattle.protocol.specs.declared.Rules.{Rules}
 use Rattle.protocol.specs.declared.kinds.Bounds.the-variants as Bd
 use Rattle.protocol.specs.Bytes.{isOneOf}
-use Rattle.protocol.specs.Kinds.{Kind, Mode, modes, find, modeOf, kindIn, boundsBy}
+use Rattle.protocol.specs.Kinds.{Kind, Mode, modes, IsIn, find, modeOf, kindIn, boundsBy}
 
 -- t is none of some keys, as the last arm of a `match` knows it: the last key outermost
 abbrev pub Apart : ℕ → List ℕ → Type 0
@@ -57,6 +58,10 @@ module _ {A : Type 0} (key : A → ℕ) (test : A → Bool) where
 abbrev pub All : {A : Type 0} → (A → Type 0) → List A → Type 0
 All P [] = Unit {0}
 All P (x ∷ xs) = P x × All P xs
+
+pub in-all : {A : Type 0} (P : A → Type 0) (xs : List A) → All P xs → (x : A) → IsIn x xs → P x
+in-all P (y ∷ ys) h x (inl e) = rw e (h .0)
+in-all P (y ∷ ys) h x (inr i) = in-all P ys (h .1) x i
 
 module _ {A : Type 0} (key : A → ℕ) (P : A → Type 0) where
   all-by : (x : A) (xs : List A) (k : ℕ) (y : A) (t : Bool) → P x → (find key k xs ≡ some y → P y) → cond t (some x) (find key k xs) ≡ some y → P y

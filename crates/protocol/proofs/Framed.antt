@@ -12,7 +12,7 @@ use lib.ListN.{length}
 use Rattle.protocol.specs.declared.Rules.{Rules}
 use Rattle.protocol.specs.Bytes.{numberAt, signedOf}
 use Rattle.protocol.specs.Decode.{Header, more, refuse, framed, lengthBy, typedBy, untypedBy, bareBy, tagAt, headerIn, headerBy, headerOf}
-use Rattle.protocol.specs.Kinds.{Envelope, typed, untyped, bare, Kind, Mode, modes, modeOf, kindIn, frontend, backend, cancel, tlsAnswer, gssAnswer, parse, bind, close, describe, execute, flush, sync, copyDone, copyData, copyFail, parseComplete, bindComplete, closeComplete, portalSuspended, noData, emptyQueryResponse, rowDescription, parameterDescription, dataRow, commandComplete, readyForQuery, errorResponse, noticeResponse, copyInResponse, copyOutResponse, copyBothResponse, notificationResponse, cancelRequest, sslAccept, sslRefuse, gssAccept, gssRefuse}
+use Rattle.protocol.specs.Kinds.{Envelope, typed, untyped, bare, Kind, Mode, modes, modeOf, kindIn, the-table}
 use Rattle.protocol.specs.WellFormed.{bodyStart, lengthOf}
 use Rattle.protocol.proofs.Find.{every, find-every, numberOf, tagOf}
 
@@ -110,7 +110,7 @@ abbrev roomyMode : Mode → Bool
 roomyMode m = every (roomyKind (m .envelope)) (m .kinds)
 
 all-roomy : T (every roomyMode modes)
-unfolding frontend backend cancel tlsAnswer gssAnswer parse bind close describe execute flush sync copyDone copyData copyFail parseComplete bindComplete closeComplete portalSuspended noData emptyQueryResponse rowDescription parameterDescription dataRow commandComplete readyForQuery errorResponse noticeResponse copyInResponse copyOutResponse copyBothResponse notificationResponse cancelRequest sslAccept sslRefuse gssAccept gssRefuse
+unfolding the-table
 all-roomy = tt
 
 ends-by : (e : Envelope) (k : Kind) (s : List ℕ) (end : ℕ) → T (roomyKind e k) → Framing e k s end → (bodyStart e ≤ end) × (end ≤ length s)

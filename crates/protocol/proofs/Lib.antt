@@ -4,3 +4,4 @@ pub mod Counts
 pub mod Ended
 pub mod Framed
 pub mod Open
+pub mod Views

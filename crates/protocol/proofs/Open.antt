@@ -2,14 +2,9 @@
 use Rattle.protocol.specs.Bytes.{isOneOf, numberFrom, numberAt, signedOf}
 use Rattle.protocol.specs.Each.{leastOfEach}
 use Rattle.protocol.specs.Fields.{itemLeast}
-use Rattle.protocol.specs.Kinds.{frontend, backend, cancel, tlsAnswer, gssAnswer, parse, bind, close, describe, execute, flush, sync, copyDone, copyData, copyFail, parseComplete, bindComplete, closeComplete, portalSuspended, noData, emptyQueryResponse, rowDescription, parameterDescription, dataRow, commandComplete, readyForQuery, errorResponse, noticeResponse, copyInResponse, copyOutResponse, copyBothResponse, notificationResponse, cancelRequest, sslAccept, sslRefuse, gssAccept, gssRefuse, find, modeOf, kindIn}
+use Rattle.protocol.specs.Kinds.{the-table, find, modeOf, kindIn}
 use Rattle.protocol.specs.Reading.{readNumber, oneMore, zeroIn, textAt, readText, valueAt, readValue, passItems, countAt, readCount, readCounted, endedFrom, readEnded}
 use Rattle.protocol.specs.Decode.{lengthBy, typedBy, untypedBy, bareBy, headerIn, headerBy, headerOf, closed, decodedBy, decodeBy, decodeOf}
-
--- the modes and their kinds
-unfoldable pub the-table : Unit {0}
-unfolding frontend backend cancel tlsAnswer gssAnswer parse bind close describe execute flush sync copyDone copyData copyFail parseComplete bindComplete closeComplete portalSuspended noData emptyQueryResponse rowDescription parameterDescription dataRow commandComplete readyForQuery errorResponse noticeResponse copyInResponse copyOutResponse copyBothResponse notificationResponse cancelRequest sslAccept sslRefuse gssAccept gssRefuse
-the-table = tt
 
 -- all of decoding, so that a decoding of given bytes computes
 unfoldable pub the-decoding : Unit {0}

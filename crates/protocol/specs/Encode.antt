@@ -18,6 +18,7 @@ use Rattle.protocol.specs.declared.response.SslResponse.the-variants as 
 use Rattle.protocol.specs.Fields.{ItemContent}
 use Rattle.protocol.specs.Kinds.{Kind, Mode, nullable, rowField, errorField, sslAccept, sslRefuse, gssAccept, gssRefuse}
 use Rattle.protocol.specs.Refusals.{lengthAboveLimit, outputTooShort, notRepresentable}
+use Rattle.protocol.specs.Rules.{rulesOf}
 use Rattle.protocol.specs.WellFormed.{Contents, bodyBytes, lengthOf, frame, allAble}
 
 -- ---- which content the arguments are, if any
@@ -74,7 +75,7 @@ gssKind Gss.Refuse = gssRefuse
 unfoldable pub encodedBy : Mode → (k : Kind) → Option (Contents k) → ℕ → Encoded
 encodedBy m k none room = N.Refused notRepresentable 0
 encodedBy m k (some c) room =
-    cond (allAble (record { mode = m .mode }) k c)
+    cond (allAble (rulesOf (m .mode)) k c)
     (cond (ltb (k .limit) (lengthOf (m .envelope) (length (bodyBytes k c)))) (N.Refused lengthAboveLimit 0)
     (cond (ltb room (length (frame (m .envelope) k c))) (N.Refused outputTooShort 0)
     (N.Done (length (frame (m .envelope) k c)))))

@@ -1,6 +1,8 @@
--- The tables of kinds (docs/FORMAT.md 2 and 4): for each kind its type byte, smallest length, limit and body, and under that its record.
+-- The tables of kinds (docs/FORMAT.md 2 and 4), a line for each kind: name, type byte, smallest length, limit, number at the boundary, and body. The
+-- records are made in Records.
 use Prim.Native.Char.{Char, code}
 use Prim.Native.Nat.{ℕ, _+_}
+use Prim.Native.String.{String}
 use mathlib.Core.Bool.{cond}
 use mathlib.Core.List.{List, [], _∷_}
 use mathlib.Core.Logic.{_⊎_}
@@ -9,32 +11,56 @@ use mathlib.Core.Path.{_≡_}
 use lib.Dec.{eqb}
 use Rattle.protocol.specs.declared.Element.the-variants as E
 use Rattle.protocol.specs.declared.Element.{Element}
-use Rattle.protocol.specs.declared.Message.the-variants.{Bind, BindComplete, CancelRequest, Close, CloseComplete, CommandComplete, CopyBothResponse, CopyData, CopyDone, CopyFail, CopyInResponse, CopyOutResponse, DataRow, Describe, EmptyQueryResponse, ErrorResponse, Execute, Flush, GssEncResponse, NoData, NoticeResponse, NotificationResponse, ParameterDescription, Parse, ParseComplete, PortalSuspended, ReadyForQuery, RowDescription, SslResponse, Sync}
 use Rattle.protocol.specs.declared.Message.{Message}
 use Rattle.protocol.specs.declared.Rules.{Rules}
 use Rattle.protocol.specs.declared.Span.{Span}
 use Rattle.protocol.specs.declared.data.FieldDescription.{FieldDescription}
 use Rattle.protocol.specs.declared.kinds.Bounds.the-variants as Bd
 use Rattle.protocol.specs.declared.kinds.Bounds.{Bounds}
-use Rattle.protocol.specs.declared.response.GssEncResponse.the-variants as Gss
-use Rattle.protocol.specs.declared.response.SslResponse.the-variants as Ssl
 use Rattle.protocol.specs.Each.{Each}
 use Rattle.protocol.specs.Fields.{Atom, unsigned, signed, oneOf, text, value, rest, AtomSlot, Item, signedCount, Field, one, counted, ended, Slot}
+use Rattle.protocol.specs.Records as R
 
 -- how a frame is framed: by a type byte and a length, by a length and a code, or as one byte alone
 pub data Envelope : Type 0 where
   typed untyped bare : Envelope
 
--- a row: what tells the kind (a type byte, a code or the one byte), smallest length, limit, body, and the record of what is read
+-- what is made of a body's slots, field by field
+abbrev pub Made : List Field → Type 0
+Made [] = Message
+Made (x ∷ xs) = Slot x → Made xs
+
+abbrev madeOf : (body : List Field) → Made body → Each Slot body → Message
+madeOf [] make s = make
+madeOf (x ∷ xs) make s = madeOf xs (make (s .0)) (s .1)
+
+-- a row: the Rust's name; what tells the kind (a type byte, a code or the one byte); smallest length; limit; its number at the boundary for other
+-- languages, with an answer's own behind it; body; and the record of what is read
 pub record Kind : Type 0 where
+  pub name : String
   pub tag : ℕ
   pub smallest : ℕ
   pub limit : ℕ
+  pub numbers : List ℕ
   pub body : List Field
   pub message : Each Slot body → Message
 
-abbrev pub kind : Char → ℕ → ℕ → (body : List Field) → (Each Slot body → Message) → Kind
-kind type smallest limit body message = record { tag = code type; smallest = smallest; limit = limit; body = body; message = message }
+abbrev row : String → ℕ → ℕ → ℕ → List ℕ → (body : List Field) → Made body → Kind
+row name tag smallest limit numbers body make = record {
+  name = name;
+  tag = tag;
+  smallest = smallest;
+  limit = limit;
+  numbers = numbers;
+  body = body;
+  message = madeOf body make;
+}
+
+abbrev kind : String → Char → ℕ → ℕ → ℕ → (body : List Field) → Made body → Kind
+kind name type smallest limit number body make = row name (code type) smallest limit (number ∷ []) body make
+
+abbrev answer : String → Char → List ℕ → Message → Kind
+answer name byte numbers message = row name (code byte) 1 1 numbers [] message
 
 -- ---- limits and the words of the tables
 
@@ -53,6 +79,9 @@ smallFrame = 1 + small
 
 abbrev pub string : Field
 string = one text
+
+abbrev pub theRest : Field
+theRest = one rest
 
 abbrev pub i8 : Field
 i8 = one (signed 1)
@@ -117,139 +146,115 @@ formats = counted signedCount format
 abbrev pub values : Field
 values = counted signedCount nullable
 
+abbrev pub rowFields : Field
+rowFields = counted signedCount rowField
+
+abbrev pub errorFields : Field
+errorFields = ended errorField
+
 -- ---- frontend, mode 0
 
 unfoldable pub parse : Kind
-parse = kind "P" 8 large (string ∷ string ∷ oids ∷ [])
-    (λ s. Parse (record { name = s .0; query = s .1 .0; «type_oids» = s .1 .1 .0 }))
+parse = kind "Parse" "P" 8 large 1 (string ∷ string ∷ oids ∷ []) R.parse
 
 unfoldable pub bind : Kind
-bind = kind "B" 12 large (string ∷ string ∷ formats ∷ values ∷ formats ∷ [])
-    (λ s. Bind (record {
-      «portal_name» = s .0;
-      «statement_name» = s .1 .0;
-      «parameter_format_codes» = s .1 .1 .0;
-      parameters = s .1 .1 .1 .0;
-      «result_column_format_codes» = s .1 .1 .1 .1 .0;
-    }))
+bind = kind "Bind" "B" 12 large 2 (string ∷ string ∷ formats ∷ values ∷ formats ∷ []) R.bind
 
 unfoldable pub close : Kind
-close = kind "C" 6 small (target ∷ string ∷ [])
-    (λ s. Close (record { «target_type» = s .0; name = s .1 .0 }))
+close = kind "Close" "C" 6 small 3 (target ∷ string ∷ []) R.close
 
 unfoldable pub describe : Kind
-describe = kind "D" 6 small (target ∷ string ∷ [])
-    (λ s. Describe (record { «target_type» = s .0; name = s .1 .0 }))
+describe = kind "Describe" "D" 6 small 4 (target ∷ string ∷ []) R.describe
 
 unfoldable pub execute : Kind
-execute = kind "E" 9 small (string ∷ i32 ∷ [])
-    (λ s. Execute (record { name = s .0; «max_rows» = s .1 .0 }))
+execute = kind "Execute" "E" 9 small 5 (string ∷ i32 ∷ []) R.execute
 
 unfoldable pub flush : Kind
-flush = kind "H" 4 small [] (λ _. Flush)
+flush = kind "Flush" "H" 4 small 6 [] R.flush
 
 unfoldable pub sync : Kind
-sync = kind "S" 4 small [] (λ _. Sync)
+sync = kind "Sync" "S" 4 small 7 [] R.sync
 
 unfoldable pub copyDone : Kind
-copyDone = kind "c" 4 small [] (λ _. CopyDone)
+copyDone = kind "CopyDone" "c" 4 small 8 [] R.copyDone
 
 unfoldable pub copyData : Kind
-copyData = kind "d" 4 large (one rest ∷ [])
-    (λ s. CopyData (record { «data» = s .0 }))
+copyData = kind "CopyData" "d" 4 large 9 (theRest ∷ []) R.copyData
 
 unfoldable pub copyFail : Kind
-copyFail = kind "f" 5 small (string ∷ [])
-    (λ s. CopyFail (record { message = s .0 }))
+copyFail = kind "CopyFail" "f" 5 small 10 (string ∷ []) R.copyFail
 
 -- ---- backend, mode 1
 
 unfoldable pub parseComplete : Kind
-parseComplete = kind "1" 4 small [] (λ _. ParseComplete)
+parseComplete = kind "ParseComplete" "1" 4 small 11 [] R.parseComplete
 
 unfoldable pub bindComplete : Kind
-bindComplete = kind "2" 4 small [] (λ _. BindComplete)
+bindComplete = kind "BindComplete" "2" 4 small 12 [] R.bindComplete
 
 unfoldable pub closeComplete : Kind
-closeComplete = kind "3" 4 small [] (λ _. CloseComplete)
+closeComplete = kind "CloseComplete" "3" 4 small 13 [] R.closeComplete
 
 unfoldable pub portalSuspended : Kind
-portalSuspended = kind "s" 4 small [] (λ _. PortalSuspended)
+portalSuspended = kind "PortalSuspended" "s" 4 small 14 [] R.portalSuspended
 
 unfoldable pub noData : Kind
-noData = kind "n" 4 small [] (λ _. NoData)
+noData = kind "NoData" "n" 4 small 15 [] R.noData
 
 unfoldable pub emptyQueryResponse : Kind
-emptyQueryResponse = kind "I" 4 small [] (λ _. EmptyQueryResponse)
+emptyQueryResponse = kind "EmptyQueryResponse" "I" 4 small 16 [] R.emptyQueryResponse
 
 unfoldable pub rowDescription : Kind
-rowDescription = kind "T" 6 large (counted signedCount rowField ∷ [])
-    (λ s. RowDescription (record { fields = s .0 }))
+rowDescription = kind "RowDescription" "T" 6 large 17 (rowFields ∷ []) R.rowDescription
 
 unfoldable pub parameterDescription : Kind
-parameterDescription = kind "t" 6 large (oids ∷ [])
-    (λ s. ParameterDescription (record { types = s .0 }))
+parameterDescription = kind "ParameterDescription" "t" 6 large 18 (oids ∷ []) R.parameterDescription
 
 unfoldable pub dataRow : Kind
-dataRow = kind "D" 6 large (values ∷ [])
-    (λ s. DataRow (record { «data» = s .0 }))
+dataRow = kind "DataRow" "D" 6 large 19 (values ∷ []) R.dataRow
 
 unfoldable pub commandComplete : Kind
-commandComplete = kind "C" 5 small (string ∷ [])
-    (λ s. CommandComplete (record { tag = s .0 }))
+commandComplete = kind "CommandComplete" "C" 5 small 20 (string ∷ []) R.commandComplete
 
 unfoldable pub readyForQuery : Kind
-readyForQuery = kind "Z" 5 small (status ∷ [])
-    (λ s. ReadyForQuery (record { status = s .0 }))
+readyForQuery = kind "ReadyForQuery" "Z" 5 small 21 (status ∷ []) R.readyForQuery
 
 unfoldable pub errorResponse : Kind
-errorResponse = kind "E" 5 large (ended errorField ∷ [])
-    (λ s. ErrorResponse (record { fields = s .0 }))
+errorResponse = kind "ErrorResponse" "E" 5 large 22 (errorFields ∷ []) R.errorResponse
 
 unfoldable pub noticeResponse : Kind
-noticeResponse = kind "N" 5 large (ended errorField ∷ [])
-    (λ s. NoticeResponse (record { fields = s .0 }))
+noticeResponse = kind "NoticeResponse" "N" 5 large 23 (errorFields ∷ []) R.noticeResponse
 
 unfoldable pub copyInResponse : Kind
-copyInResponse = kind "G" 7 small (i8 ∷ formats ∷ [])
-    (λ s. CopyInResponse (record { format = s .0; «column_formats» = s .1 .0 }))
+copyInResponse = kind "CopyInResponse" "G" 7 small 24 (i8 ∷ formats ∷ []) R.copyInResponse
 
 unfoldable pub copyOutResponse : Kind
-copyOutResponse = kind "H" 7 small (i8 ∷ formats ∷ [])
-    (λ s. CopyOutResponse (record { format = s .0; «column_formats» = s .1 .0 }))
+copyOutResponse = kind "CopyOutResponse" "H" 7 small 25 (i8 ∷ formats ∷ []) R.copyOutResponse
 
 unfoldable pub copyBothResponse : Kind
-copyBothResponse = kind "W" 7 small (i8 ∷ formats ∷ [])
-    (λ s. CopyBothResponse (record { format = s .0; «column_formats» = s .1 .0 }))
+copyBothResponse = kind "CopyBothResponse" "W" 7 small 26 (i8 ∷ formats ∷ []) R.copyBothResponse
 
 unfoldable pub notificationResponse : Kind
-notificationResponse = kind "A" 10 large (i32 ∷ string ∷ string ∷ [])
-    (λ s. NotificationResponse (record { pid = s .0; channel = s .1 .0; payload = s .1 .1 .0 }))
+notificationResponse = kind "NotificationResponse" "A" 10 large 27 (i32 ∷ string ∷ string ∷ []) R.notificationResponse
 
--- ---- cancel request, mode 2: the length counts itself, the code and the body
+-- ---- cancel request, mode 2: told by a code; the length counts itself, the code and the body
 
 unfoldable pub cancelRequest : Kind
-cancelRequest = record {
-  tag = 80877102;
-  smallest = 16;
-  limit = small;
-  body = i32 ∷ i32 ∷ [];
-  message = λ s. CancelRequest (record { pid = s .0; «secret_key» = s .1 .0 });
-}
+cancelRequest = row "CancelRequest" 80877102 16 small (28 ∷ []) (i32 ∷ i32 ∷ []) R.cancelRequest
 
--- ---- TLS and GSS answers, modes 3 and 4: one byte
+-- ---- TLS and GSS answers, modes 3 and 4: one byte, which has a number of its own at the boundary, 0 to accept and 1 to refuse
 
 unfoldable pub sslAccept : Kind
-sslAccept = kind "S" 1 1 [] (λ _. SslResponse Ssl.Accept)
+sslAccept = answer "SslResponse" "S" (29 ∷ 0 ∷ []) R.sslAccept
 
 unfoldable pub sslRefuse : Kind
-sslRefuse = kind "N" 1 1 [] (λ _. SslResponse Ssl.Refuse)
+sslRefuse = answer "SslResponse" "N" (29 ∷ 1 ∷ []) R.sslRefuse
 
 unfoldable pub gssAccept : Kind
-gssAccept = kind "G" 1 1 [] (λ _. GssEncResponse Gss.Accept)
+gssAccept = answer "GssEncResponse" "G" (30 ∷ 0 ∷ []) R.gssAccept
 
 unfoldable pub gssRefuse : Kind
-gssRefuse = kind "N" 1 1 [] (λ _. GssEncResponse Gss.Refuse)
+gssRefuse = answer "GssEncResponse" "N" (30 ∷ 1 ∷ []) R.gssRefuse
 
 -- ---- modes
 
@@ -287,6 +292,11 @@ gssAnswer = record { mode = 4; envelope = bare; kinds = gssAccept ∷ gssRefuse 
 
 abbrev pub modes : List Mode
 modes = frontend ∷ backend ∷ cancel ∷ tlsAnswer ∷ gssAnswer ∷ []
+
+-- the modes and their kinds, to open together: to unfold this is to unfold all of them
+unfoldable pub the-table : Unit {0}
+unfolding frontend backend cancel tlsAnswer gssAnswer parse bind close describe execute flush sync copyDone copyData copyFail parseComplete bindComplete closeComplete portalSuspended noData emptyQueryResponse rowDescription parameterDescription dataRow commandComplete readyForQuery errorResponse noticeResponse copyInResponse copyOutResponse copyBothResponse notificationResponse cancelRequest sslAccept sslRefuse gssAccept gssRefuse
+the-table = tt
 
 -- ---- finding a row
 

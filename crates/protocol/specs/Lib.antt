@@ -1,9 +1,12 @@
 pub mod Bytes
+pub mod Rules
 pub mod Refusals
 pub mod Each
 pub mod Fields
 pub mod Reading
+pub mod Records
 pub mod Kinds
+pub mod Views
 pub mod WellFormed
 pub mod Decode
 pub mod Elements

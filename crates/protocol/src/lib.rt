@@ -1,4 +1,7 @@
 // The types of every answer, by value, and the constants, in modules named as the Rust's files.
+ghost use mathlib.Core.Path.{_≡_};
+ghost use Rattle.protocol.specs.Rules.{rulesOf};
+
 pub mod cancel;
 pub mod copy;
 pub mod data;
@@ -47,6 +50,12 @@ pub struct List {
 // What a frame is read by: the mode. A version or a check of texts is a further field here.
 pub struct Rules {
     pub mode: u8,
+}
+
+pub fn rules_of(mode: u8) -> Rules
+    ensures { λ r. ⌜ r ≡ rulesOf mode ⌝ }
+{
+    Rules { mode }
 }
 
 // A message, under the Rust's names. The kinds with no field hold nothing.

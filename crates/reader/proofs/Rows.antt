@@ -25,6 +25,7 @@ use Rattle.protocol.specs.declared.List.{List as ListSlot}
 use Rattle.protocol.specs.declared.Rules.{Rules}
 use Rattle.protocol.specs.Decode.{Header, more, refuse, framed, headerOf, bodyOf, decodedBy, decodeBy, decodeOf}
 use Rattle.protocol.specs.Refusals.{noSuchElement, outputTooShort}
+use Rattle.protocol.specs.Rules.{rulesOf}
 use Rattle.reader.specs.declared.row.Row.the-variants as R
 use Rattle.reader.specs.declared.row.Row.{Row}
 use Rattle.reader.specs.Row.{ReadsRow, rowBy, rowFits, rowIn}
@@ -139,7 +140,7 @@ pub is-row : (rules : Rules) (s : List ℕ) (starts lengths : ℕ) (l : ListSlot
 is-row rules s starts lengths l n e = row-by rules s (decodeOf rules s) starts lengths l n refl e
 
 -- where the answer is none, nothing is stored
-pub kept : (s starts : List ℕ) (lengths : List ℤ) (r : Row) → OneOf (1 ∷ 2 ∷ []) (tagOf RT.the-type r) → r ≡ rowBy (decodeOf (record { mode = 1 }) s) (length starts) (length lengths) → ReadsRow s starts lengths r starts lengths
+pub kept : (s starts : List ℕ) (lengths : List ℤ) (r : Row) → OneOf (1 ∷ 2 ∷ []) (tagOf RT.the-type r) → r ≡ rowBy (decodeOf (rulesOf 1) s) (length starts) (length lengths) → ReadsRow s starts lengths r starts lengths
 kept s starts lengths (R.Is l n) h e = absurd (no-key h)
   where
     no-key : OneOf (1 ∷ 2 ∷ []) 0 → ⊥

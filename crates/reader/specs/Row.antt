@@ -17,6 +17,7 @@ use Rattle.protocol.specs.Answers.{Answer, success, needsMore, refusal}
 use Rattle.protocol.specs.Decode.{decodeOf}
 use Rattle.protocol.specs.Reading.{Read, got, bad, readValue}
 use Rattle.protocol.specs.Refusals.{noSuchElement, outputTooShort}
+use Rattle.protocol.specs.Rules.{rulesOf}
 use Rattle.reader.specs.declared.row.Entry.the-variants as E
 use Rattle.reader.specs.declared.row.Entry.{Entry}
 use Rattle.reader.specs.declared.row.Row.the-variants as R
@@ -124,6 +125,6 @@ lengthsOf xs = map (λ (x : Place). x .length) xs
 
 -- what is promised of the answer and of the two lists, before and after
 pub record ReadsRow (s starts₀ : List ℕ) (lengths₀ : List ℤ) (r : Row) (starts₁ : List ℕ) (lengths₁ : List ℤ) : Type 0 where
-  pub answer : r ≡ rowBy (decodeOf (record { mode = 1 }) s) (length starts₀) (length lengths₀)
+  pub answer : r ≡ rowBy (decodeOf (rulesOf 1) s) (length starts₀) (length lengths₀)
   pub starts : starts₁ ≡ over (startsOf (placesIn r s)) starts₀
   pub lengths : lengths₁ ≡ over (lengthsOf (placesIn r s)) lengths₀

@@ -12,7 +12,7 @@ use codec::Half;
 use codec::Text;
 use codec::Value;
 use codec::Word;
-use protocol::Rules;
+use protocol::rules_of;
 
 pub struct FrameReader<'a> {
     pub frame: &'a [u8],
@@ -42,7 +42,7 @@ pub fn word_at(frame: &[u8], at: usize) -> Word
 pub fn string_at(frame: &[u8], at: usize) -> Text
     ensures { λ r. ⌜ textRead at r ≡ readText (now (frame .entry)) at ⌝ }
 {
-    Cursor { at }.text(Rules { mode: 0 }, frame)
+    Cursor { at }.text(rules_of(0), frame)
 }
 
 pub fn value_at(frame: &[u8], at: usize) -> Value

@@ -4,6 +4,7 @@ ghost use mathlib.Core.Path.{_≡_};
 ghost use lib.ListN.{length};
 ghost use Rattle.protocol.specs.Decode.{decodeOf};
 ghost use Rattle.protocol.specs.Reading.{readValue};
+ghost use Rattle.protocol.specs.Rules.{rulesOf};
 ghost use Rattle.reader.specs.Row.{ReadsRow, entryOf, lengthWord, lengthsOf, over, placesFrom, rowBy, rowFits, rowIn, startsOf};
 use super::value_at;
 use codec::Value;
@@ -62,7 +63,7 @@ fn row_in(message: Message, end: usize, starts: usize, lengths: usize) -> Row
 }
 
 fn row_of(buf: &[u8], starts: usize, lengths: usize) -> Row
-    ensures { λ r. ⌜ r ≡ rowBy (decodeOf (record { mode = 1 }) (now (buf .entry))) starts lengths ⌝ }
+    ensures { λ r. ⌜ r ≡ rowBy (decodeOf (rulesOf 1) (now (buf .entry))) starts lengths ⌝ }
 {
     match decode(1, buf) {
         Decoded::Record(message, end) => row_in(message, end, starts, lengths),

@@ -3,8 +3,8 @@ ghost use mathlib.Core.Path.{_≡_};
 ghost use lib.ListN.{length};
 use codec::Cursor;
 use items::response::ErrorStep;
-use protocol::Rules;
 use protocol::Span;
+use protocol::rules_of;
 use test_cases::write;
 use test_cases::write_number;
 
@@ -61,7 +61,7 @@ pub fn write_pass(frame: &[u8; ROOM]) {
     let mut right: usize = 0;
     for i in 0..COUNT {
         let ErrorStep::Is(code, string, next) = items::response::error_field(
-            Rules { mode: 1 },
+            rules_of(1),
             frame,
             Cursor { at },
         ) else {

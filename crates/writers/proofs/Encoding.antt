@@ -14,6 +14,7 @@ use Rattle.protocol.specs.Bytes.{be}
 use Rattle.protocol.specs.Encode.{encodedBy, writtenBy, Encodes}
 use Rattle.protocol.specs.Kinds.{Envelope, typed, untyped, bare, Kind, Mode, largeFrame}
 use Rattle.protocol.specs.Refusals.{lengthAboveLimit, outputTooShort, notRepresentable}
+use Rattle.protocol.specs.Rules.{rulesOf}
 use Rattle.protocol.specs.WellFormed.{Contents, bodyBytes, lengthOf, header, bodyStart, frame, allAble}
 use Rattle.writers.specs.Writing.{write, Wrote, Put, Framed, verdictOf}
 use Rattle.writers.proofs.Laws.{_then_, front}
@@ -91,7 +92,7 @@ cut able limit size more room low = by (ltb limit size) refl
 -- whether arguments can be written at all
 unfoldable pub ableOf : Mode → (k : Kind) → Option (Contents k) → Bool
 ableOf m k none = false
-ableOf m k (some c) = allAble (record { mode = m .mode }) k c
+ableOf m k (some c) = allAble (rulesOf (m .mode)) k c
 
 -- r is the answer
 pub record Judged (m : Mode) (k : Kind) (given : Option (Contents k)) (room : ℕ) (r : Encoded) : Type 0 where
@@ -100,7 +101,7 @@ pub record Judged (m : Mode) (k : Kind) (given : Option (Contents k)) (room : �
 module _ (m : Mode) (k : Kind) (low : k .limit < 18446744073709551615) where
   -- of a content: the measured size counts only where the content can be written
   judged-by : (c : Contents k) {size room : ℕ} {r : Encoded} (able : Bool)
-      → allAble (record { mode = m .mode }) k c ≡ able → (able ≡ true → size ≡ min (lengthOf (m .envelope) (length (bodyBytes k c))) 18446744073709551615)
+      → allAble (rulesOf (m .mode)) k c ≡ able → (able ≡ true → size ≡ min (lengthOf (m .envelope) (length (bodyBytes k c))) 18446744073709551615)
       → r ≡ verdictOf able (k .limit) size (uncounted (m .envelope)) room → Judged m k (some c) room r
   unfolding encodedBy verdictOf
   judged-by c {size} {room} {r} false same sized v = record { answer = v ∙ rw same refl }
@@ -111,7 +112,7 @@ module _ (m : Mode) (k : Kind) (low : k .limit < 18446744073709551615) where
       record { answer = v ∙ e ∙ rw (same, length-frame (m .envelope) k c) refl }
 
   judged-some : (c : Contents k) {able : Bool} {size room : ℕ} {r : Encoded}
-      → able ≡ allAble (record { mode = m .mode }) k c
+      → able ≡ allAble (rulesOf (m .mode)) k c
       → (able ≡ true → size ≡ min (lengthOf (m .envelope) (length (bodyBytes k c))) 18446744073709551615)
       → r ≡ verdictOf able (k .limit) size (uncounted (m .envelope)) room → Judged m k (some c) room r
   judged-some c {able} same sized v = judged-by c able (sym same) sized v
@@ -160,7 +161,7 @@ writtenOf m k none {room} {n} v is =
 writtenOf m k (some c) {room} {n} v is =
     let size = lengthOf (m .envelope) (length (bodyBytes k c)) in
     let whole = length (frame (m .envelope) k c) in
-    let able = allAble (record { mode = m .mode }) k c in
+    let able = allAble (rulesOf (m .mode)) k c in
     let h = room-by (k .limit) size whole room n able (ltb (k .limit) size) (ltb room whole) refl refl (sym (v .answer) ∙ is) in
     record { it = c; is = refl; able = h .0; whole = h .1 ∙ length-frame (m .envelope) k c; small = h .2; fits = omega (arith, h .1, h .3) }
 
@@ -187,7 +188,7 @@ done {m} {k} {given} {out} {left} {n} v is w =
 
 -- ---- the two answers to a frame of a size that is known, with nothing but the room to ask for
 
-module _ (m : Mode) (k : Kind) (c : Contents k) {n room : ℕ} (able : allAble (record { mode = m .mode }) k c ≡ true)
+module _ (m : Mode) (k : Kind) (c : Contents k) {n room : ℕ} (able : allAble (rulesOf (m .mode)) k c ≡ true)
     (small : ltb (k .limit) (lengthOf (m .envelope) (length (bodyBytes k c))) ≡ false) (size : length (frame (m .envelope) k c) ≡ n) where
   pub short : room < n → Judged m k (some c) room (N.Refused outputTooShort 0)
   unfolding encodedBy
@@ -207,7 +208,7 @@ pub record Measured (m : Mode) (k : Kind) (given : Option (Contents k)) (most : 
   pub size : (c : Contents k) → given ≡ some c → length (bodyBytes k c) ≡ n
 
 pub measured : (m : Mode) (k : Kind) (c : Contents k) {limit : ℕ} {able : Bool} {size : ℕ}
-    → m .envelope ≡ typed → k .limit ≡ limit → allAble (record { mode = m .mode }) k c ≡ able → length (bodyBytes k c) ≡ size
+    → m .envelope ≡ typed → k .limit ≡ limit → allAble (rulesOf (m .mode)) k c ≡ able → length (bodyBytes k c) ≡ size
     → Measured m k (some c) limit able size
 unfolding ableOf
 measured m k c e l a s = record {

@@ -8,6 +8,7 @@ use native.Mathlib.Omega.{arith}
 use lib.ListN.{length}
 use Rattle.protocol.specs.Encode.{oneBefore}
 use Rattle.protocol.specs.Kinds.{typed, Kind, Mode}
+use Rattle.protocol.specs.Rules.{rulesOf}
 use Rattle.protocol.specs.WellFormed.{Contents, bodyBytes, allAble}
 use Rattle.writers.specs.Given.{isSome}
 use Rattle.writers.specs.Writing.{Framed}
@@ -40,7 +41,7 @@ module _ {A : Type 0} (k : Kind) (body : A → Contents k) where
   framed-given (some x) w = w x refl
 
   pub measured-given : (m : Mode) (given : Option A) {limit : ℕ} {able : Bool} {size : ℕ} → m .envelope ≡ typed → k .limit ≡ limit
-      → ((x : A) → given ≡ some x → allAble (record { mode = m .mode }) k (body x) ≡ able)
+      → ((x : A) → given ≡ some x → allAble (rulesOf (m .mode)) k (body x) ≡ able)
       → ((x : A) → given ≡ some x → length (bodyBytes k (body x)) ≡ size)
       → Measured m k (Option·map body given) limit (isSome given && able) size
   unfolding ableOf

@@ -2,6 +2,7 @@
 use mathlib.Core.Path.{_≡_, refl, ap, sym, _∙_}
 use native.Mathlib.Omega.{arith}
 use borrow.Author.Needs.{needs}
+use Rattle.protocol.specs.Rules.{rulesOf}
 use Rattle.protocol.specs.Stream.{frame, stepAt}
 use Rattle.listing.specs.Listing.{stepOf, stepLine}
 use Rattle.listing.proofs.Steps.{frame-size}
@@ -13,7 +14,7 @@ start c = c .before .before .before
 
 -- the frame that stands there
 told : (c : tie.After-known-told) → let b = c .before .before .before in let a = start b .args in
-    stepAt (record { mode = a .mode }) (a .stream .now) (a .place) ≡ frame (c .before .message .given .0 .0) (c .before .message .given .0 .1 .0)
+    stepAt (rulesOf (a .mode)) (a .stream .now) (a .place) ≡ frame (c .before .message .given .0 .0) (c .before .message .given .0 .1 .0)
 told c = sym (c .before .before .before .step-at .ensures) ∙ ap stepOf (c .before .message .given .1)
 
 add-t17 : tie.Need-add-t17
