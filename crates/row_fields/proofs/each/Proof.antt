@@ -61,9 +61,9 @@ use Rattle.protocol.proofs.data.FieldDescription as T
 use Rattle.protocol.proofs.data.FieldDescription.Laws as T′
 use Rattle.row_fields.proofs.step as g
 use Rattle.row_fields.proofs.step.Symbol as g-def
-use Rattle.row_fields.proofs.step.Symbol.{name as #rows·step}
+use Rattle.row_fields.proofs.step.Symbol.{name as #row-fields·step}
 use Rattle.row_fields.proofs.step.Met as g-thm
-use Rattle.row_fields.proofs.each.Key.{name as #rows·each}
+use Rattle.row_fields.proofs.each.Key.{name as #row-fields·each}
 use Rattle.row_fields.proofs.each as f
 use Rattle.row_fields.proofs.each.Statement as stated
 use Rattle.row_fields.proofs.each.Code as code
@@ -235,7 +235,7 @@ module _ {M : Type 1} (𝓤 : URA M) (H : Heap 𝓤) (A : Atoms 𝓤) (W : Given
   Nearer-wf : WellFounded Nearer
   Nearer-wf = InvImage·wf (λ (t : Far). n - t .i) (Nat·lt-wfRel .wf)
 
-  module _ (𝓣 : Tables 𝓤 H) (known : Triple 𝓤 (𝓣 .C #rows·step) (Step 𝓤 H A mem run)) (q′ : Share) (l₀ l₁ l₂ l₃ l₄ l₅ l₆ l₇ l₈ l₉ l₁₀ l₁₁ l₁₂ : ℕ) where
+  module _ (𝓣 : Tables 𝓤 H) (known : Triple 𝓤 (𝓣 .C #row-fields·step) (Step 𝓤 H A mem run)) (q′ : Share) (l₀ l₁ l₂ l₃ l₄ l₅ l₆ l₇ l₈ l₉ l₁₀ l₁₁ l₁₂ : ℕ) where
     abbrev C : Calls 𝓤 H
     C = 𝓣 .C
 
@@ -335,7 +335,7 @@ module _ {M : Type 1} (𝓤 : URA M) (H : Heap 𝓤) (A : Atoms 𝓤) (W : Given
         room-now : Room u8 (length (t .zs))
         room-now = subst (Room u8) (sym (t .long)) room₂
 
-  walk : (𝓣 : Tables 𝓤 H) → Triple 𝓤 (𝓣 .C #rows·step) (Step 𝓤 H A mem run)
+  walk : (𝓣 : Tables 𝓤 H) → Triple 𝓤 (𝓣 .C #row-fields·step) (Step 𝓤 H A mem run)
       → ent 𝓤 (onEntry 𝓤 H A f.signature (κ₀, (κ₁, (κ₂, tt))) (q₀, (q₁, (q₂, tt))) a vals) (WpFn 𝓤 H (𝓣 .C) (𝓣 .Λ) code.function (sliceVal (b₀, o₀) n ∷ sliceVal (b₁, o₁) (length ns) ∷ sliceVal (b₂, o₂) (length zs₀) ∷ low c₀ ∷ []) Post)
   walk 𝓣 known =
       qed W ((‵ (flft κ₀ q₀) ⊛ (‵ (flft κ₁ q₁) ⊛ (‵ (flft κ₂ q₂) ⊛ ‵ ftrue))) ∷ ‵ (owns (ShrSlice (named 0) κ₀ R ∷ ShrSlice (named 1) κ₁ u8 ∷ MutSlice (named 2) κ₂ u8 ∷ Q ∷ []) a vals) ∷ []) ∵
@@ -358,7 +358,7 @@ module _ {M : Type 1} (𝓤 : URA M) (H : Heap 𝓤) (A : Atoms 𝓤) (W : Given
       first ! $ blocks ! $ loops ! 𝓣 Nearer Nearer-wf (At 𝓣 known q′ l₀ l₁ l₂ l₃ l₄ l₅ l₆ l₇ l₈ l₉ l₁₀ l₁₁ l₁₂) (turns 𝓣 known q′ l₀ l₁ l₂ l₃ l₄ l₅ l₆ l₇ l₈ l₉ l₁₀ l₁₁ l₁₂)
       (record { i = 0; c = c₀; zs = zs₀; good = good₀; long = refl; ends = refl; puts = refl })))))))))))))))
 
-module _ {M : Type 1} (𝓤 : URA M) (H : Heap 𝓤) (A : Atoms 𝓤) (W : Given 𝓤 H A) (mem : Memory → SProp 𝓤) (run : Routine → Fun 𝓤) (𝓣 : Tables 𝓤 H) (known : Triple 𝓤 (𝓣 .C #rows·step) (Step 𝓤 H A mem run)) where
+module _ {M : Type 1} (𝓤 : URA M) (H : Heap 𝓤) (A : Atoms 𝓤) (W : Given 𝓤 H A) (mem : Memory → SProp 𝓤) (run : Routine → Fun 𝓤) (𝓣 : Tables 𝓤 H) (known : Triple 𝓤 (𝓣 .C #row-fields·step) (Step 𝓤 H A mem run)) where
   each-walks : Walks 𝓤 H A f.ended stayed (WpFn 𝓤 H (𝓣 .C) (𝓣 .Λ) code.function) (f.clauses 𝓤 H A mem run)
   each-walks = walked 𝓤 H A f.ended stayed (f.clauses 𝓤 H A mem run) (WpFn 𝓤 H (𝓣 .C) (𝓣 .Λ) code.function) (λ κs. (slice-vals, (slice-vals, (slice-vals, (LL.vals S.the-type S′.the-laws, tt)))))
       (λ κs. (shr-slice-tells (named 0) (κs .0) R, (shr-slice-tells (named 1) (κs .1 .0) u8, (mut-slice-tells (named 2) (κs .1 .1 .0) u8, (LL.tells S.the-type S′.the-laws, tt)))))
@@ -374,6 +374,6 @@ pub each-spec : {M : Type 1} → stated.statement M
 unfolding code.routine tablesOf
 each-spec 𝓤 H 𝓜 𝓖 𝓡 =
     entered 𝓤 H (tripleOf 𝓤 H (𝓖 .A) f.signature (f.spec 𝓤 H (𝓖 .A) (𝓜 .mem) (𝓡 .run)))
-    (tables 𝓤 H 𝓜 𝓡 code.env .C) (tables 𝓤 H 𝓜 𝓡 code.env .Λ) #rows·each code.function (code.unfolded 𝓤 H 𝓜 𝓡)
+    (tables 𝓤 H 𝓜 𝓡 code.env .C) (tables 𝓤 H 𝓜 𝓡 code.env .Λ) #row-fields·each code.function (code.unfolded 𝓤 H 𝓜 𝓡)
     (each-meets 𝓤 H (𝓖 .A) (givenOf 𝓤 H 𝓜 𝓖) (𝓜 .mem) (𝓡 .run) (tablesOf 𝓤 H 𝓜 (tables 𝓤 H 𝓜 𝓡 code.env))
-    (cited 𝓤 H (Step 𝓤 H (𝓖 .A) (𝓜 .mem) (𝓡 .run)) 𝓜 𝓡 code.env #rows·step g-def.routine code.calls-rows·step (g-thm.met 𝓤 H 𝓜 𝓖 𝓡)))
+    (cited 𝓤 H (Step 𝓤 H (𝓖 .A) (𝓜 .mem) (𝓡 .run)) 𝓜 𝓡 code.env #row-fields·step g-def.routine code.calls-row-fields·step (g-thm.met 𝓤 H 𝓜 𝓖 𝓡)))

@@ -8,9 +8,9 @@ use lib.Dec.{leb}
 use lib.ListN.{length}
 use Rattle.protocol.specs.Encode.{valuesGiven}
 use Rattle.protocol.specs.Kinds as K
-use Rattle.pen.specs.Given.{isSome}
-use Rattle.pen.proofs.Encoding.{Judged, judged, roomOf, refused, finished}
-use Rattle.pen.proofs.Lists.{and-left, and-right}
+use Rattle.writers.specs.Given.{isSome}
+use Rattle.writers.proofs.Encoding.{Judged, judged, roomOf, refused, finished}
+use Rattle.writers.proofs.Lists.{and-left, and-right}
 use Rattle.encode.specs.Given as G
 use Rattle.encode.proofs.GivenMeasures as M
 use Rattle.encode.proofs.data.data_row.Statement.{statement}

@@ -6,7 +6,7 @@ use borrow.Author.Tests.{leb-true}
 use denote.Ref.{now}
 use lib.ListN.{length}
 use Rattle.protocol.specs.Kinds as K
-use Rattle.pen.proofs.Encoding.{Judged, judged, roomOf, refused, finished}
+use Rattle.writers.proofs.Encoding.{Judged, judged, roomOf, refused, finished}
 use Rattle.encode.specs.Given as G
 use Rattle.encode.proofs.Measures as M
 use Rattle.encode.proofs.data.parameter_description.Statement.{statement}

@@ -49,23 +49,23 @@ use Rattle.protocol.specs.Kinds as K
 use Rattle.protocol.proofs.Encoded as E
 use Rattle.protocol.proofs.Encoded.Laws as E′
 use Rattle.protocol.proofs.data.FieldDescription as T
-use Rattle.rows.specs.declared.Pen.{Pen}
-use Rattle.rows.specs.Passes.{allPen, allOut, answered, begun, blank, writer}
-use Rattle.rows.proofs.Again.{LentAgain, lends-again, comes-back}
-use Rattle.rows.proofs.Pen as S
-use Rattle.rows.proofs.Pen.Laws as S′
-use Rattle.rows.proofs.begin as b
-use Rattle.rows.proofs.begin.Symbol as b-def
-use Rattle.rows.proofs.begin.Symbol.{name as #rows·begin}
-use Rattle.rows.proofs.begin.Met as b-thm
-use Rattle.rows.proofs.each as p
-use Rattle.rows.proofs.each.Symbol as p-def
-use Rattle.rows.proofs.each.Symbol.{name as #rows·each}
-use Rattle.rows.proofs.each.Met as p-thm
-use Rattle.rows.proofs.writer as w
-use Rattle.rows.proofs.writer.Symbol as w-def
-use Rattle.rows.proofs.writer.Symbol.{name as #rows·writer}
-use Rattle.rows.proofs.writer.Met as w-thm
+use Rattle.row_fields.specs.declared.Pen.{Pen}
+use Rattle.row_fields.specs.Passes.{allPen, allOut, answered, begun, blank, writer}
+use Rattle.row_fields.proofs.Again.{LentAgain, lends-again, comes-back}
+use Rattle.row_fields.proofs.Pen as S
+use Rattle.row_fields.proofs.Pen.Laws as S′
+use Rattle.row_fields.proofs.begin as b
+use Rattle.row_fields.proofs.begin.Symbol as b-def
+use Rattle.row_fields.proofs.begin.Symbol.{name as #row-fields·begin}
+use Rattle.row_fields.proofs.begin.Met as b-thm
+use Rattle.row_fields.proofs.each as p
+use Rattle.row_fields.proofs.each.Symbol as p-def
+use Rattle.row_fields.proofs.each.Symbol.{name as #row-fields·each}
+use Rattle.row_fields.proofs.each.Met as p-thm
+use Rattle.row_fields.proofs.writer as w
+use Rattle.row_fields.proofs.writer.Symbol as w-def
+use Rattle.row_fields.proofs.writer.Symbol.{name as #row-fields·writer}
+use Rattle.row_fields.proofs.writer.Met as w-thm
 use Rattle.encode.specs.Given as G
 use Rattle.encode.proofs.Rows.{joined}
 use Rattle.encode.proofs.data.row_description.Key.{name as #encode·data·row-description}
@@ -202,7 +202,7 @@ module _ {M : Type 1} (𝓤 : URA M) (H : Heap 𝓤) (A : Atoms 𝓤) (W : Given
   typed-answer : (r : Encoded) (u : Val) → Is Ans r (u ∷ []) → Holds (hasTy E′.mir u) × WT u
   typed-answer r u is = EL.lawful E.the-type E′.the-laws 𝓤 H A W tt .typed r _ is .0
 
-  module _ (𝓣 : Tables 𝓤 H) (known-b : Triple 𝓤 (𝓣 .C #rows·begin) (Begin 𝓤 H A mem run)) (known-p : Triple 𝓤 (𝓣 .C #rows·each) (Each 𝓤 H A mem run)) (known-w : Triple 𝓤 (𝓣 .C #rows·writer) (Writer 𝓤 H A mem run)) where
+  module _ (𝓣 : Tables 𝓤 H) (known-b : Triple 𝓤 (𝓣 .C #row-fields·begin) (Begin 𝓤 H A mem run)) (known-p : Triple 𝓤 (𝓣 .C #row-fields·each) (Each 𝓤 H A mem run)) (known-w : Triple 𝓤 (𝓣 .C #row-fields·writer) (Writer 𝓤 H A mem run)) where
     walk : ent 𝓤 (onEntry 𝓤 H A f.signature (κ₀, (κ₁, (κ₂, tt))) (q₀, (q₁, (q₂, tt))) a vals) (WpFn 𝓤 H (𝓣 .C) (𝓣 .Λ) code.function (sliceVal (b₀, o₀) n ∷ sliceVal (b₁, o₁) (length ns) ∷ sliceVal (b₂, o₂) (length zs₀) ∷ []) Post)
     walk =
         qed W ((‵ (flft κ₀ q₀) ⊛ (‵ (flft κ₁ q₁) ⊛ (‵ (flft κ₂ q₂) ⊛ ‵ ftrue))) ∷ ‵ (owns (ShrSlice (named 0) κ₀ R ∷ ShrSlice (named 1) κ₁ u8 ∷ MutSlice (named 2) κ₂ u8 ∷ []) a vals) ∷ []) ∵
@@ -299,7 +299,7 @@ module _ {M : Type 1} (𝓤 : URA M) (H : Heap 𝓤) (A : Atoms 𝓤) (W : Given
         small = omega (arith, room₂ .1)
 
 module _ {M : Type 1} (𝓤 : URA M) (H : Heap 𝓤) (A : Atoms 𝓤) (W : Given 𝓤 H A) (mem : Memory → SProp 𝓤) (run : Routine → Fun 𝓤) (𝓣 : Tables 𝓤 H)
-    (known-b : Triple 𝓤 (𝓣 .C #rows·begin) (Begin 𝓤 H A mem run)) (known-p : Triple 𝓤 (𝓣 .C #rows·each) (Each 𝓤 H A mem run)) (known-w : Triple 𝓤 (𝓣 .C #rows·writer) (Writer 𝓤 H A mem run)) where
+    (known-b : Triple 𝓤 (𝓣 .C #row-fields·begin) (Begin 𝓤 H A mem run)) (known-p : Triple 𝓤 (𝓣 .C #row-fields·each) (Each 𝓤 H A mem run)) (known-w : Triple 𝓤 (𝓣 .C #row-fields·writer) (Writer 𝓤 H A mem run)) where
   row-description-walks : Walks 𝓤 H A f.ended stayed (WpFn 𝓤 H (𝓣 .C) (𝓣 .Λ) code.function) (f.clauses 𝓤 H A mem run)
   row-description-walks = walked 𝓤 H A f.ended stayed (f.clauses 𝓤 H A mem run) (WpFn 𝓤 H (𝓣 .C) (𝓣 .Λ) code.function) (λ κs. (slice-vals, (slice-vals, (slice-vals, tt))))
       (λ κs. (shr-slice-tells (named 0) (κs .0) R, (shr-slice-tells (named 1) (κs .1 .0) u8, (mut-slice-tells (named 2) (κs .1 .1 .0) u8, tt))))
@@ -317,6 +317,6 @@ row-description-spec 𝓤 H 𝓜 𝓖 𝓡 =
     entered 𝓤 H (tripleOf 𝓤 H (𝓖 .A) f.signature (f.spec 𝓤 H (𝓖 .A) (𝓜 .mem) (𝓡 .run)))
     (tables 𝓤 H 𝓜 𝓡 code.env .C) (tables 𝓤 H 𝓜 𝓡 code.env .Λ) #encode·data·row-description code.function (code.unfolded 𝓤 H 𝓜 𝓡)
     (row-description-meets 𝓤 H (𝓖 .A) (givenOf 𝓤 H 𝓜 𝓖) (𝓜 .mem) (𝓡 .run) (tablesOf 𝓤 H 𝓜 (tables 𝓤 H 𝓜 𝓡 code.env))
-    (cited 𝓤 H (Begin 𝓤 H (𝓖 .A) (𝓜 .mem) (𝓡 .run)) 𝓜 𝓡 code.env #rows·begin b-def.routine code.calls-rows·begin (b-thm.met 𝓤 H 𝓜 𝓖 𝓡))
-    (cited 𝓤 H (Each 𝓤 H (𝓖 .A) (𝓜 .mem) (𝓡 .run)) 𝓜 𝓡 code.env #rows·each p-def.routine code.calls-rows·each (p-thm.met 𝓤 H 𝓜 𝓖 𝓡))
-    (cited 𝓤 H (Writer 𝓤 H (𝓖 .A) (𝓜 .mem) (𝓡 .run)) 𝓜 𝓡 code.env #rows·writer w-def.routine code.calls-rows·writer (w-thm.met 𝓤 H 𝓜 𝓖 𝓡)))
+    (cited 𝓤 H (Begin 𝓤 H (𝓖 .A) (𝓜 .mem) (𝓡 .run)) 𝓜 𝓡 code.env #row-fields·begin b-def.routine code.calls-row-fields·begin (b-thm.met 𝓤 H 𝓜 𝓖 𝓡))
+    (cited 𝓤 H (Each 𝓤 H (𝓖 .A) (𝓜 .mem) (𝓡 .run)) 𝓜 𝓡 code.env #row-fields·each p-def.routine code.calls-row-fields·each (p-thm.met 𝓤 H 𝓜 𝓖 𝓡))
+    (cited 𝓤 H (Writer 𝓤 H (𝓖 .A) (𝓜 .mem) (𝓡 .run)) 𝓜 𝓡 code.env #row-fields·writer w-def.routine code.calls-row-fields·writer (w-thm.met 𝓤 H 𝓜 𝓖 𝓡)))

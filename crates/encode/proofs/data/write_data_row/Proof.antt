@@ -6,9 +6,9 @@ use Rattle.protocol.specs.Each.{bytesOfEach}
 use Rattle.protocol.specs.Encode.{valuesGiven}
 use Rattle.protocol.specs.Kinds as K
 use Rattle.protocol.specs.WellFormed.{bodyBytes}
-use Rattle.pen.proofs.Encoding.{framed-put}
-use Rattle.pen.proofs.GivenLaws.{framed-given}
-use Rattle.pen.proofs.Puts.{_and_, none}
+use Rattle.writers.proofs.Encoding.{framed-put}
+use Rattle.writers.proofs.GivenLaws.{framed-given}
+use Rattle.writers.proofs.Puts.{_and_, none}
 use Rattle.encode.specs.Given as G
 use Rattle.encode.proofs.data.write_data_row.Statement.{statement}
 use Rattle.encode.proofs.data.write_data_row.Tie as tie

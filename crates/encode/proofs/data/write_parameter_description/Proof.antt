@@ -8,8 +8,8 @@ use Rattle.protocol.specs.Encode.{items}
 use Rattle.protocol.specs.Fields.{bytes, atomBytes}
 use Rattle.protocol.specs.Kinds as K
 use Rattle.protocol.specs.WellFormed.{bodyBytes}
-use Rattle.pen.proofs.Encoding.{framed-put}
-use Rattle.pen.proofs.Puts.{_and_, none}
+use Rattle.writers.proofs.Encoding.{framed-put}
+use Rattle.writers.proofs.Puts.{_and_, none}
 use Rattle.encode.specs.Given as G
 use Rattle.encode.proofs.data.write_parameter_description.Statement.{statement}
 use Rattle.encode.proofs.data.write_parameter_description.Tie as tie
