@@ -10,7 +10,7 @@ use Rattle.protocol.specs.declared.response.GssEncResponse.{GssEncResponse}
 use Rattle.protocol.specs.declared.response.SslResponse.the-variants as Ssl
 use Rattle.protocol.specs.declared.response.SslResponse.{SslResponse}
 use Rattle.protocol.specs.Encode.{items, valuesGiven, errorFieldsGiven, rowFieldsGiven, sslKind, gssKind}
-use Rattle.protocol.specs.Fields.{Field, ended}
+use Rattle.protocol.specs.Fields.{Field}
 use Rattle.protocol.specs.Kinds as K
 use Rattle.protocol.specs.Kinds.{Kind}
 use Rattle.protocol.specs.WellFormed.{Contents}
@@ -19,9 +19,21 @@ use Rattle.protocol.specs.WellFormed.{Contents}
 abbrev pub Given : Kind → Type 0
 Given k = Option (Contents k)
 
+-- a row of which an encoder sees all that it needs: name, number and record do not matter to it
+abbrev pub anonymous : ℕ → ℕ → ℕ → List Field → Kind
+anonymous tag smallest limit body = record {
+  name = "";
+  tag = tag;
+  smallest = smallest;
+  limit = limit;
+  numbers = [];
+  body = body;
+  message = λ _. Sync;
+}
+
 -- kinds of one shape: for an encoder, the type byte is all that tells them apart
 abbrev pub shaped : ℕ → List Field → ℕ → Kind
-shaped smallest body tag = record { tag = tag; smallest = smallest; limit = K.small; body = body; message = λ _. Sync }
+shaped smallest body tag = anonymous tag smallest K.small body
 
 -- no field; a string; a target and a name; a format and the columns' formats
 abbrev pub fieldless : ℕ → Kind
@@ -47,7 +59,7 @@ formatsOf tag format formats = some (format, (items formats, tt))
 
 -- an answer of one byte, which is all of it
 abbrev pub lone : ℕ → Kind
-lone byte = record { tag = byte; smallest = 1; limit = 1; body = []; message = λ _. Sync }
+lone byte = anonymous byte 1 1 []
 
 -- ---- extendedquery.rs
 
@@ -156,7 +168,7 @@ readyForQuery status = some (status, tt)
 
 -- an error and a notice are of one shape, as the kinds above
 abbrev pub reported : ℕ → Kind
-reported tag = record { tag = tag; smallest = 5; limit = K.large; body = ended K.errorField ∷ []; message = λ _. Sync }
+reported tag = anonymous tag 5 K.large (K.errorFields ∷ [])
 
 abbrev pub reportOf : (tag : ℕ) → List ℕ → List ℕ → List ℕ → Given (reported tag)
 reportOf tag codes lengths joined = Option·map (λ fs. (fs, tt)) (errorFieldsGiven codes lengths joined)

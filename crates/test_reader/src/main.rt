@@ -15,7 +15,7 @@ fn answer(name: u8, first: usize, second: usize, frame: &[u8]) {
             test_cases::write(b"at ");
             test_cases::write_number(through::place_of_new(frame));
         }
-        b'r' => row_fields::answer(frame, first, second),
+        b'r' => rows::answer(frame, first, second),
         _ => steps::answer(name, frame, second),
     }
 }
