@@ -11,7 +11,7 @@ ghost use Rattle.host_layout.specs.LaidOut.{elementOut, fieldNumbers, recordOut
 ghost use Rattle.host_parts.specs.Reads.{errorFieldOut, fieldOut};
 use codec::Cursor;
 use host_layout::bits::bits;
-use host_layout::rows;
+use host_layout::shapes;
 use items::data::FieldStep;
 use items::data::field_description;
 use items::response::ErrorStep;
@@ -61,14 +61,14 @@ fn laid_out(element: Element) -> [usize; 16]
     ensures { λ r. ⌜ r ≡ elementOut element ⌝ }
 {
     match element {
-        Element::Oid(oid) => row_fields::one_number(1, 0, oid as usize),
-        Element::Format(code) => row_fields::one_number(2, 0, half(code)),
-        Element::Null => row_fields::none(3, 0),
-        Element::Value(value) => row_fields::one_span(4, 0, value),
+        Element::Oid(oid) => shapes::one_number(1, 0, oid as usize),
+        Element::Format(code) => shapes::one_number(2, 0, half(code)),
+        Element::Null => shapes::none(3, 0),
+        Element::Value(value) => shapes::one_span(4, 0, value),
         Element::Field(d) => field(0, d),
-        Element::ErrorField(code, text) => row_fields::target(6, 0, code, text),
-        Element::NeedMore => row_fields::need_more(),
-        Element::Refused(number, place) => row_fields::refused(number, place),
+        Element::ErrorField(code, text) => shapes::target(6, 0, code, text),
+        Element::NeedMore => shapes::need_more(),
+        Element::Refused(number, place) => shapes::refused(number, place),
     }
 }
 
@@ -91,7 +91,7 @@ fn field_numbers(step: FieldStep) -> [usize; 16]
 {
     match step {
         FieldStep::Is(d, next) => field(next.at, d),
-        FieldStep::Cut(place) => row_fields::refused(CUT, place),
+        FieldStep::Cut(place) => shapes::refused(CUT, place),
     }
 }
 
@@ -107,8 +107,8 @@ fn error_numbers(step: ErrorStep) -> [usize; 16]
     ensures { λ r. ⌜ r ≡ errorFieldOut (errorRead step) ⌝ }
 {
     match step {
-        ErrorStep::Is(code, text, next) => row_fields::target(6, next.at, code, text),
-        ErrorStep::Cut(place) => row_fields::refused(CUT, place),
+        ErrorStep::Is(code, text, next) => shapes::target(6, next.at, code, text),
+        ErrorStep::Cut(place) => shapes::refused(CUT, place),
     }
 }
 

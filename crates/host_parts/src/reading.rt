@@ -4,7 +4,7 @@ ghost use Rattle.protocol.specs.Reading.{readValue};
 ghost use Rattle.codec.specs.Answers.{valueRead};
 ghost use Rattle.host_parts.specs.Reads.{LaysRow, rowOut, valueOut};
 use codec::Value;
-use host_layout::rows;
+use host_layout::shapes;
 use protocol::refusal::CUT;
 use protocol::refusal::NOT_ALLOWED;
 use reader::row::Row;
@@ -13,10 +13,10 @@ fn value_numbers(value: Value, at: usize) -> [usize; 16]
     ensures { λ r. ⌜ r ≡ valueOut (valueRead at value) ⌝ }
 {
     match value {
-        Value::Is(part, next) => row_fields::one_span(4, next.at, part),
-        Value::Null(next) => row_fields::none(3, next.at),
-        Value::Cut => row_fields::refused(CUT, at),
-        Value::BelowNull => row_fields::refused(NOT_ALLOWED, at),
+        Value::Is(part, next) => shapes::one_span(4, next.at, part),
+        Value::Null(next) => shapes::none(3, next.at),
+        Value::Cut => shapes::refused(CUT, at),
+        Value::BelowNull => shapes::refused(NOT_ALLOWED, at),
     }
 }
 
@@ -32,9 +32,9 @@ fn row_numbers(row: Row) -> [usize; 16]
     ensures { λ r. ⌜ r ≡ rowOut row ⌝ }
 {
     match row {
-        Row::Is(list, n) => row_fields::one_list(19, n, list),
-        Row::NeedMore => row_fields::need_more(),
-        Row::Refused(number, place) => row_fields::refused(number, place),
+        Row::Is(list, n) => shapes::one_list(19, n, list),
+        Row::NeedMore => shapes::need_more(),
+        Row::Refused(number, place) => shapes::refused(number, place),
     }
 }
 

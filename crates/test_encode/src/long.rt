@@ -59,7 +59,7 @@ pub fn call(by_boundary: bool, case: Case, out: &mut [u8]) -> Encoded {
     let words = full_words(byte as u32);
     let numbers = full_numbers(byte as i32);
     let formats = full_formats(codec::signed16(byte as u16));
-    test_readme::call(
+    calls::call(
         by_boundary,
         counted(case),
         &bytes,

@@ -17,7 +17,7 @@ pub const SPARE: u8 = 238;
 // A line's end comes after the answer.
 fn with_letter(case: Case, letter: u8) -> Case {
     if letter == b'\n' {
-        test_readme::answer(case::step(case, b' '));
+        calls::answer(case::step(case, b' '));
         write_letter(letter);
         return case::start();
     }

@@ -9,4 +9,4 @@ returns : tie.Need-returns
 returns c = c .error-numbers .ensures ∙ ap errorFieldOut (c .before .error-field .ensures)
 
 pub tusweram-error-field-spec : {M : Type 1} → statement M
-tusweram-error-field-spec = tie.close (tie.spec (λ c κs. search needs) (λ c κs. search needs) returns)
+tusweram-error-field-spec = tie.close (tie.spec (λ c κs. search needs) (λ c κs. search needs) (λ c κs. search needs) returns)

@@ -9,4 +9,4 @@ returns : tie.Need-returns
 returns c = c .field-numbers .ensures ∙ ap fieldOut (c .before .field-description .ensures)
 
 pub tusweram-field-spec : {M : Type 1} → statement M
-tusweram-field-spec = tie.close (tie.spec (λ c κs. search needs) (λ c κs. search needs) returns)
+tusweram-field-spec = tie.close (tie.spec (λ c κs. search needs) (λ c κs. search needs) (λ c κs. search needs) returns)

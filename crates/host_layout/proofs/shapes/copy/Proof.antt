@@ -1,10 +1,10 @@
--- `host_layout::rows::copy` meets its contract: the format's bits are those of the wider number.
+-- `host_layout::shapes::copy` meets its contract: the format's bits are those of the wider number.
 use mathlib.Core.Path.{refl}
 use mir.Syntax.{w8}
 use Rattle.host_layout.proofs.Signs.{widens, wide-bits-of}
 use borrow.Author.Needs.{needs}
-use Rattle.host_layout.proofs.rows.copy.Statement.{statement}
-use Rattle.host_layout.proofs.rows.copy.Tie as tie
+use Rattle.host_layout.proofs.shapes.copy.Statement.{statement}
+use Rattle.host_layout.proofs.shapes.copy.Tie as tie
 
 cast-bits : tie.Need-cast-bits
 cast-bits c = widens w8 (c .args .format) tt (c .fits .format)

@@ -1,10 +1,10 @@
--- `host_layout::rows::execute` meets its contract: its number's bits are laid out.
+-- `host_layout::shapes::execute` meets its contract: its number's bits are laid out.
 use mathlib.Core.Path.{refl}
 use mir.Syntax.{w32}
 use Rattle.host_layout.proofs.Signs.{passed}
 use borrow.Author.Needs.{needs}
-use Rattle.host_layout.proofs.rows.execute.Statement.{statement}
-use Rattle.host_layout.proofs.rows.execute.Tie as tie
+use Rattle.host_layout.proofs.shapes.execute.Statement.{statement}
+use Rattle.host_layout.proofs.shapes.execute.Tie as tie
 
 returns : tie.Need-returns
 returns c = rw (← passed w32 (c .before .before .before .args .m .«max_rows») (c .before .struct-told .given .1 .0 .1) (c .bits .ensures)) refl

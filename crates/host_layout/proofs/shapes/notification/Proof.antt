@@ -1,10 +1,10 @@
--- `host_layout::rows::notification` meets its contract: its number's bits are laid out.
+-- `host_layout::shapes::notification` meets its contract: its number's bits are laid out.
 use mathlib.Core.Path.{refl}
 use mir.Syntax.{w32}
 use Rattle.host_layout.proofs.Signs.{passed}
 use borrow.Author.Needs.{needs}
-use Rattle.host_layout.proofs.rows.notification.Statement.{statement}
-use Rattle.host_layout.proofs.rows.notification.Tie as tie
+use Rattle.host_layout.proofs.shapes.notification.Statement.{statement}
+use Rattle.host_layout.proofs.shapes.notification.Tie as tie
 
 returns : tie.Need-returns
 returns c =

@@ -1,10 +1,10 @@
--- `host_layout::rows::cancel` meets its contract: its numbers' bits are laid out.
+-- `host_layout::shapes::cancel` meets its contract: its numbers' bits are laid out.
 use mathlib.Core.Path.{refl}
 use mir.Syntax.{w32}
 use Rattle.host_layout.proofs.Signs.{passed}
 use borrow.Author.Needs.{needs}
-use Rattle.host_layout.proofs.rows.cancel.Statement.{statement}
-use Rattle.host_layout.proofs.rows.cancel.Tie as tie
+use Rattle.host_layout.proofs.shapes.cancel.Statement.{statement}
+use Rattle.host_layout.proofs.shapes.cancel.Tie as tie
 
 returns : tie.Need-returns
 returns c =
