@@ -15,7 +15,7 @@ use Rattle.protocol.specs.WellFormed.{bodyStart}
 use Rattle.protocol.proofs.Find.{Apart, keysOnto, tagOf, kind-apart}
 use Rattle.protocol.proofs.Framed.{Framed, framed-ends}
 use Rattle.protocol.proofs.Numbers.{read-take}
-use Rattle.bodies.specs.Steps.{tagRead, bodyAs, bodyAt, bodyTold}
+use Rattle.messages.specs.Steps.{tagRead, bodyAs, bodyAt, bodyTold}
 use Rattle.decode.specs.Steps.{bodyFrom, bodyIn}
 
 -- the frame of a mode that is known

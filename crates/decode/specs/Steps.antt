@@ -12,7 +12,7 @@ use Rattle.protocol.specs.Decode as Spec
 use Rattle.protocol.specs.Decode.{more, refuse, framed}
 use Rattle.protocol.specs.Kinds.{Mode, modeOf}
 use Rattle.protocol.specs.Refusals.{modeUnknown, lengthTooSmall, lengthAboveLimit}
-use Rattle.bodies.specs.Steps.{bodyTold}
+use Rattle.messages.specs.Steps.{bodyTold}
 use Rattle.decode.specs.declared.header.Header.the-variants as H
 use Rattle.decode.specs.declared.header.Header.{Header}
 

@@ -1,19 +1,20 @@
-// The choice by kind: a frame's own type byte tells its decoder.
+// The choice by kind, made once: a frame's type byte, code or answer byte leads to the decoder of its kind.
 // Inner: for crates of this library alone (docs/CONTRACTS.md, "Inner functions").
 ghost use mathlib.Core.Path.{_≡_};
+ghost use Rattle.protocol.specs.Decode.{decodeIn};
 ghost use Rattle.protocol.specs.Kinds as K;
-ghost use Rattle.protocol.specs.Kinds.{kindIn};
-ghost use Rattle.bodies.specs.Steps.{bodyAs, bodyTold};
-ghost use Rattle.decode.specs.Steps.{bodyIn};
-use bodies::cancel;
-use bodies::copy;
-use bodies::data;
-use bodies::extendedquery;
-use bodies::response;
 use codec::Byte;
 use codec::Cursor;
-use protocol::Body;
+use codec::Word;
+use messages::cancel;
+use messages::copy;
+use messages::data;
+use messages::extendedquery;
+use messages::response;
+use protocol::Decoded;
+use protocol::Message;
 use protocol::Rules;
+use protocol::cancel::CancelRequest;
 use protocol::copy::MESSAGE_TYPE_BYTE_COPY_BOTH_RESPONSE;
 use protocol::copy::MESSAGE_TYPE_BYTE_COPY_DATA;
 use protocol::copy::MESSAGE_TYPE_BYTE_COPY_DONE;
@@ -35,95 +36,126 @@ use protocol::extendedquery::MESSAGE_TYPE_BYTE_PARSE;
 use protocol::extendedquery::MESSAGE_TYPE_BYTE_PARSE_COMPLETE;
 use protocol::extendedquery::MESSAGE_TYPE_BYTE_PORTAL_SUSPENDED;
 use protocol::extendedquery::MESSAGE_TYPE_BYTE_SYNC;
-use protocol::refusal::MODE_UNKNOWN;
 use protocol::refusal::TYPE_UNKNOWN;
+use protocol::response::GssEncResponse;
 use protocol::response::MESSAGE_TYPE_BYTE_COMMAND_COMPLETE;
 use protocol::response::MESSAGE_TYPE_BYTE_EMPTY_QUERY_RESPONSE;
 use protocol::response::MESSAGE_TYPE_BYTE_ERROR_RESPONSE;
 use protocol::response::MESSAGE_TYPE_BYTE_NOTICE_RESPONSE;
 use protocol::response::MESSAGE_TYPE_BYTE_NOTIFICATION_RESPONSE;
 use protocol::response::MESSAGE_TYPE_BYTE_READY_FOR_QUERY;
+use protocol::response::SslResponse;
 
-// A kind of the frontend.
-fn frontend_kind(rules: Rules, type_byte: u8, frame: &[u8]) -> Body
-    ensures { λ r. ⌜ r ≡ bodyAs rules K.typed (now (frame .entry)) (kindIn K.frontend «type_byte») ⌝ }
+// Mode 0: a type byte of the frontend.
+pub fn frontend(rules: Rules, buf: &[u8]) -> Decoded
+    ensures { λ r. ⌜ r ≡ decodeIn rules K.frontend (now (buf .entry)) ⌝ }
 {
+    let c = Cursor { at: 0 };
+    let Byte::Is(type_byte, _) = c.byte(buf) else {
+        return Decoded::NeedMore;
+    };
     match type_byte {
-        MESSAGE_TYPE_BYTE_PARSE => extendedquery::parse(rules, frame),
-        MESSAGE_TYPE_BYTE_BIND => extendedquery::bind(rules, frame),
-        MESSAGE_TYPE_BYTE_CLOSE => extendedquery::close(rules, frame),
-        MESSAGE_TYPE_BYTE_DESCRIBE => extendedquery::describe(rules, frame),
-        MESSAGE_TYPE_BYTE_EXECUTE => extendedquery::execute(rules, frame),
-        MESSAGE_TYPE_BYTE_FLUSH => extendedquery::flush(rules, frame),
-        MESSAGE_TYPE_BYTE_SYNC => extendedquery::sync(rules, frame),
-        MESSAGE_TYPE_BYTE_COPY_DONE => copy::copy_done(rules, frame),
-        MESSAGE_TYPE_BYTE_COPY_DATA => copy::copy_data(rules, frame),
-        MESSAGE_TYPE_BYTE_COPY_FAIL => copy::copy_fail(rules, frame),
-        _ => Body::Refused(TYPE_UNKNOWN, 0),
+        MESSAGE_TYPE_BYTE_PARSE => extendedquery::parse(rules, buf),
+        MESSAGE_TYPE_BYTE_BIND => extendedquery::bind(rules, buf),
+        MESSAGE_TYPE_BYTE_CLOSE => extendedquery::close(rules, buf),
+        MESSAGE_TYPE_BYTE_DESCRIBE => extendedquery::describe(rules, buf),
+        MESSAGE_TYPE_BYTE_EXECUTE => extendedquery::execute(rules, buf),
+        MESSAGE_TYPE_BYTE_FLUSH => extendedquery::flush(rules, buf),
+        MESSAGE_TYPE_BYTE_SYNC => extendedquery::sync(rules, buf),
+        MESSAGE_TYPE_BYTE_COPY_DONE => copy::copy_done(rules, buf),
+        MESSAGE_TYPE_BYTE_COPY_DATA => copy::copy_data(rules, buf),
+        MESSAGE_TYPE_BYTE_COPY_FAIL => copy::copy_fail(rules, buf),
+        _ => Decoded::Refused(TYPE_UNKNOWN, 0),
     }
 }
 
-// A kind of the backend.
-fn backend_kind(rules: Rules, type_byte: u8, frame: &[u8]) -> Body
-    ensures { λ r. ⌜ r ≡ bodyAs rules K.typed (now (frame .entry)) (kindIn K.backend «type_byte») ⌝ }
+// Mode 1: a type byte of the backend.
+pub fn backend(rules: Rules, buf: &[u8]) -> Decoded
+    ensures { λ r. ⌜ r ≡ decodeIn rules K.backend (now (buf .entry)) ⌝ }
 {
+    let c = Cursor { at: 0 };
+    let Byte::Is(type_byte, _) = c.byte(buf) else {
+        return Decoded::NeedMore;
+    };
     match type_byte {
-        MESSAGE_TYPE_BYTE_PARSE_COMPLETE => extendedquery::parse_complete(rules, frame),
-        MESSAGE_TYPE_BYTE_BIND_COMPLETE => extendedquery::bind_complete(rules, frame),
-        MESSAGE_TYPE_BYTE_CLOSE_COMPLETE => extendedquery::close_complete(rules, frame),
-        MESSAGE_TYPE_BYTE_PORTAL_SUSPENDED => extendedquery::portal_suspended(rules, frame),
-        MESSAGE_TYPE_BYTE_NO_DATA => data::no_data(rules, frame),
-        MESSAGE_TYPE_BYTE_EMPTY_QUERY_RESPONSE => response::empty_query_response(rules, frame),
-        MESSAGE_TYPE_BYTE_COPY_DONE => copy::copy_done(rules, frame),
-        MESSAGE_TYPE_BYTE_ROW_DESCRITION => data::row_description(rules, frame),
-        MESSAGE_TYPE_BYTE_PARAMETER_DESCRITION => data::parameter_description(rules, frame),
-        MESSAGE_TYPE_BYTE_DATA_ROW => data::data_row(rules, frame),
-        MESSAGE_TYPE_BYTE_COMMAND_COMPLETE => response::command_complete(rules, frame),
-        MESSAGE_TYPE_BYTE_READY_FOR_QUERY => response::ready_for_query(rules, frame),
-        MESSAGE_TYPE_BYTE_ERROR_RESPONSE => response::error_response(rules, frame),
-        MESSAGE_TYPE_BYTE_NOTICE_RESPONSE => response::notice_response(rules, frame),
-        MESSAGE_TYPE_BYTE_COPY_IN_RESPONSE => copy::copy_in_response(rules, frame),
-        MESSAGE_TYPE_BYTE_COPY_OUT_RESPONSE => copy::copy_out_response(rules, frame),
-        MESSAGE_TYPE_BYTE_COPY_BOTH_RESPONSE => copy::copy_both_response(rules, frame),
-        MESSAGE_TYPE_BYTE_NOTIFICATION_RESPONSE => response::notification_response(rules, frame),
-        MESSAGE_TYPE_BYTE_COPY_DATA => copy::copy_data(rules, frame),
-        _ => Body::Refused(TYPE_UNKNOWN, 0),
+        MESSAGE_TYPE_BYTE_PARSE_COMPLETE => extendedquery::parse_complete(rules, buf),
+        MESSAGE_TYPE_BYTE_BIND_COMPLETE => extendedquery::bind_complete(rules, buf),
+        MESSAGE_TYPE_BYTE_CLOSE_COMPLETE => extendedquery::close_complete(rules, buf),
+        MESSAGE_TYPE_BYTE_PORTAL_SUSPENDED => extendedquery::portal_suspended(rules, buf),
+        MESSAGE_TYPE_BYTE_NO_DATA => data::no_data(rules, buf),
+        MESSAGE_TYPE_BYTE_EMPTY_QUERY_RESPONSE => response::empty_query_response(rules, buf),
+        MESSAGE_TYPE_BYTE_COPY_DONE => copy::copy_done(rules, buf),
+        MESSAGE_TYPE_BYTE_ROW_DESCRITION => data::row_description(rules, buf),
+        MESSAGE_TYPE_BYTE_PARAMETER_DESCRITION => data::parameter_description(rules, buf),
+        MESSAGE_TYPE_BYTE_DATA_ROW => data::data_row(rules, buf),
+        MESSAGE_TYPE_BYTE_COMMAND_COMPLETE => response::command_complete(rules, buf),
+        MESSAGE_TYPE_BYTE_READY_FOR_QUERY => response::ready_for_query(rules, buf),
+        MESSAGE_TYPE_BYTE_ERROR_RESPONSE => response::error_response(rules, buf),
+        MESSAGE_TYPE_BYTE_NOTICE_RESPONSE => response::notice_response(rules, buf),
+        MESSAGE_TYPE_BYTE_COPY_IN_RESPONSE => copy::copy_in_response(rules, buf),
+        MESSAGE_TYPE_BYTE_COPY_OUT_RESPONSE => copy::copy_out_response(rules, buf),
+        MESSAGE_TYPE_BYTE_COPY_BOTH_RESPONSE => copy::copy_both_response(rules, buf),
+        MESSAGE_TYPE_BYTE_NOTIFICATION_RESPONSE => response::notification_response(rules, buf),
+        MESSAGE_TYPE_BYTE_COPY_DATA => copy::copy_data(rules, buf),
+        _ => Decoded::Refused(TYPE_UNKNOWN, 0),
     }
 }
 
-// A frame from the frontend. The choice is a function by itself, so that the compiler puts each kind's decoder into it.
-fn frontend(rules: Rules, frame: &[u8]) -> Body
-    ensures { λ r. ⌜ r ≡ bodyTold rules K.frontend (now (frame .entry)) ⌝ }
+// Where a code stands, after the length, and where one that is unknown is refused.
+const CODE_AT: usize = 4;
+
+// Mode 2: a code after the length, which is looked at first.
+pub fn cancel(rules: Rules, buf: &[u8]) -> Decoded
+    ensures { λ r. ⌜ r ≡ decodeIn rules K.cancel (now (buf .entry)) ⌝ }
 {
-    let c = Cursor { at: 0 };
-    let Byte::Is(type_byte, _) = c.byte(frame) else {
-        return Body::Refused(TYPE_UNKNOWN, 0);
+    let c = Cursor { at: CODE_AT };
+    let Word::Is(code, _) = c.word(buf) else {
+        return Decoded::NeedMore;
     };
-    frontend_kind(rules, type_byte, frame)
+    match code {
+        CancelRequest::CANCEL_REQUEST_CODE => cancel::cancel_request(rules, buf),
+        _ => Decoded::Refused(TYPE_UNKNOWN, CODE_AT),
+    }
 }
 
-// A frame from the backend, likewise.
-fn backend(rules: Rules, frame: &[u8]) -> Body
-    ensures { λ r. ⌜ r ≡ bodyTold rules K.backend (now (frame .entry)) ⌝ }
+// Mode 3: the answer to a request for TLS, one byte, which is all of it.
+pub fn tls_answer(rules: Rules, buf: &[u8]) -> Decoded
+    ensures { λ r. ⌜ r ≡ decodeIn rules K.tlsAnswer (now (buf .entry)) ⌝ }
 {
     let c = Cursor { at: 0 };
-    let Byte::Is(type_byte, _) = c.byte(frame) else {
-        return Body::Refused(TYPE_UNKNOWN, 0);
+    let Byte::Is(answer, _) = c.byte(buf) else {
+        return Decoded::NeedMore;
     };
-    backend_kind(rules, type_byte, frame)
+    match answer {
+        SslResponse::BYTE_ACCEPT => Decoded::Record(
+            Message::SslResponse(SslResponse::Accept),
+            SslResponse::MESSAGE_LENGTH,
+        ),
+        SslResponse::BYTE_REFUSE => Decoded::Record(
+            Message::SslResponse(SslResponse::Refuse),
+            SslResponse::MESSAGE_LENGTH,
+        ),
+        _ => Decoded::Refused(TYPE_UNKNOWN, 0),
+    }
 }
 
-// The body of a whole frame.
-pub fn body_of(rules: Rules, frame: &[u8]) -> Body
-    ensures { λ r. ⌜ r ≡ bodyIn rules (now (frame .entry)) ⌝ }
+// Mode 4: the answer to a request for GSS encryption, one byte, which is all of it.
+pub fn gss_answer(rules: Rules, buf: &[u8]) -> Decoded
+    ensures { λ r. ⌜ r ≡ decodeIn rules K.gssAnswer (now (buf .entry)) ⌝ }
 {
-    let mode = rules.mode;
-    match mode {
-        0 => frontend(rules, frame),
-        1 => backend(rules, frame),
-        2 => cancel::by_code(rules, frame),
-        3 => response::ssl_response(rules, frame),
-        4 => response::gss_enc_response(rules, frame),
-        _ => Body::Refused(MODE_UNKNOWN, 0),
+    let c = Cursor { at: 0 };
+    let Byte::Is(answer, _) = c.byte(buf) else {
+        return Decoded::NeedMore;
+    };
+    match answer {
+        GssEncResponse::BYTE_ACCEPT => Decoded::Record(
+            Message::GssEncResponse(GssEncResponse::Accept),
+            GssEncResponse::MESSAGE_LENGTH,
+        ),
+        GssEncResponse::BYTE_REFUSE => Decoded::Record(
+            Message::GssEncResponse(GssEncResponse::Refuse),
+            GssEncResponse::MESSAGE_LENGTH,
+        ),
+        _ => Decoded::Refused(TYPE_UNKNOWN, 0),
     }
 }

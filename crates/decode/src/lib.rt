@@ -1,40 +1,28 @@
 // Decoding one message from a lent buffer.
 ghost use mathlib.Core.Path.{_≡_};
 ghost use Rattle.protocol.specs.Bytes.{partOf};
-ghost use Rattle.protocol.specs.Decode.{decodeOf, decodedBy};
+ghost use Rattle.protocol.specs.Decode.{decodeOf};
 ghost use Rattle.protocol.specs.Rules.{rulesOf};
 
-pub mod header;
-pub mod kinds;
+mod kinds;
 
-use header::Header;
-use header::header_of;
-use kinds::body_of;
-use protocol::Body;
 use protocol::Decoded;
 use protocol::Rules;
+use protocol::refusal::MODE_UNKNOWN;
 use protocol::rules_of;
 
-// A body's answer with the bytes consumed.
-fn decoded(body: Body, end: usize) -> Decoded
-    ensures { λ r. ⌜ r ≡ decodedBy body end ⌝ }
-{
-    match body {
-        Body::Is(message) => Decoded::Record(message, end),
-        Body::Refused(number, place) => Decoded::Refused(number, place),
-    }
-}
-
+// `decode` with the rules given.
 pub fn decode_by(rules: Rules, buf: &[u8]) -> Decoded
     ensures { λ r. ⌜ r ≡ decodeOf rules (now (buf .entry)) ⌝ }
 {
-    match header_of(rules, buf) {
-        Header::Frame(end) => {
-            let frame = &buf[..end];
-            decoded(body_of(rules, frame), end)
-        }
-        Header::NeedMore => Decoded::NeedMore,
-        Header::Refused(number, place) => Decoded::Refused(number, place),
+    let mode = rules.mode;
+    match mode {
+        0 => kinds::frontend(rules, buf),
+        1 => kinds::backend(rules, buf),
+        2 => kinds::cancel(rules, buf),
+        3 => kinds::tls_answer(rules, buf),
+        4 => kinds::gss_answer(rules, buf),
+        _ => Decoded::Refused(MODE_UNKNOWN, 0),
     }
 }
 

@@ -9,7 +9,7 @@ use Rattle.protocol.specs.declared.Decoded.the-variants as D
 use Rattle.protocol.specs.declared.Decoded.{Decoded}
 use Rattle.protocol.specs.declared.Element.the-variants as E
 use Rattle.protocol.specs.declared.Rules.{Rules}
-use Rattle.protocol.specs.Decode.{Header, more, refuse, framed, headerOf, closed, bodyBy, decodedBy, decodeBy, decodeOf}
+use Rattle.protocol.specs.Decode.{Header, more, refuse, framed, headerOf, closed, decodedBy, decodeBy, decodeOf}
 use Rattle.protocol.specs.Each.{Each}
 use Rattle.protocol.specs.Elements.{elementBy, elementAt, elementIn, elementOf}
 use Rattle.protocol.specs.Fields.{Slot}
@@ -26,7 +26,7 @@ module _ (rules : Rules) (s : List ℕ) (l : ℕ) where
   Answered (D.Refused number place) = (n : ℕ) → E.Refused number place ≡ elementOf rules s l n
 
   module _ (k : Kind) (a b : ℕ) (e : headerOf rules s ≡ framed k a b) where
-    by-end : (v : Each Slot (k .body)) (q : ℕ) → readEach (read rules) (k .body) (take b s) a ≡ got v q → (t : Bool) → ltb q (length (take b s)) ≡ t → Answered (decodedBy (bodyBy (closed (take b s) q (k .message v))) b)
+    by-end : (v : Each Slot (k .body)) (q : ℕ) → readEach (read rules) (k .body) (take b s) a ≡ got v q → (t : Bool) → ltb q (length (take b s)) ≡ t → Answered (decodedBy (closed (take b s) q (k .message v)) b)
     unfolding elementOf elementIn elementBy closed decodedBy
     by-end v q r true t = rw t (λ n. rw (e, r, t) refl)
     by-end v q r false t =
@@ -34,7 +34,7 @@ module _ (rules : Rules) (s : List ℕ) (l : ℕ) where
         let same = kind-same (take b s) rules s k a b w v l in
         rw t (framed-ends rules s k a b w .1, same .1 (read-fits (take b s) rules (k .body) l a q v r), λ n. rw (e, r, t) (ap (elementAt rules (take b s) n) (rw (same .0) refl)))
 
-    by-body : (r : Read (Each Slot (k .body))) → readEach (read rules) (k .body) (take b s) a ≡ r → Answered (decodedBy (bodyBy (andThen r (λ v q. closed (take b s) q (k .message v)))) b)
+    by-body : (r : Read (Each Slot (k .body))) → readEach (read rules) (k .body) (take b s) a ≡ r → Answered (decodedBy (andThen r (λ v q. closed (take b s) q (k .message v))) b)
     unfolding elementOf elementIn elementBy decodedBy
     by-body (got v q) r = by-end v q r (ltb q (length (take b s))) refl
     by-body (bad number place) r = λ n. rw (e, r) refl

@@ -17,7 +17,7 @@ use Rattle.protocol.specs.declared.Message.{Message}
 use Rattle.protocol.specs.declared.Rules.{Rules}
 use Rattle.protocol.specs.declared.Span.{Span}
 use Rattle.protocol.specs.Answers.{Answer, Unsuccessful, ofDecoded, ofElement}
-use Rattle.protocol.specs.Decode.{Header, more, refuse, framed, headerOf, closed, readBody, bodyBy, bodyOf, decodedBy, decodeBy, decodeOf}
+use Rattle.protocol.specs.Decode.{Header, more, refuse, framed, headerOf, closed, readBody, bodyOf, decodedBy, decodeBy, decodeOf}
 use Rattle.protocol.specs.Each.{Each, slotsOfEach}
 use Rattle.protocol.specs.Elements.{Listed, listIn, readItemAt, elementBy, elementAt, elementIn, elementOf, valueOr}
 use Rattle.protocol.specs.Fields.{AtomSlot, valueSlot, atomSlot, Item, itemSlots, Field, one, counted, ended, Slot}
@@ -73,7 +73,7 @@ list-speaks rules f n (ended i ∷ xs) h (suc l) v = list-speaks rules f n xs (h
 
 module _ (rules : Rules) (s : List ℕ) (l n : ℕ) where
   -- decode's refusal of a whole frame is the call's
-  refused-body : (k : Kind) (start end number place : ℕ) (x : Read Message) → readBody rules k (k .message) (take end s) start ≡ x → decodedBy (bodyBy x) end ≡ D.Refused number place → elementIn rules s l n (framed k start end) ≡ E.Refused number place
+  refused-body : (k : Kind) (start end number place : ℕ) (x : Read Message) → readBody rules k (k .message) (take end s) start ≡ x → decodedBy x end ≡ D.Refused number place → elementIn rules s l n (framed k start end) ≡ E.Refused number place
   unfolding elementIn elementBy decodedBy
   refused-body k start end number place (got m q) x e = let z : _≡_ {A = ℕ} 0 1 = cc in absurd (omega arith)
   refused-body k start end number place (bad c y) x e =

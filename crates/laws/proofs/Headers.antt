@@ -12,14 +12,13 @@ use lib.Dec.{ltb, eqb, eqb·suc-zero}
 use lib.IntN.{ℤ, pos, negsuc}
 use lib.ListN.{length, take, length-append}
 use lib.Seq.{take-append-seam}
-use Rattle.protocol.specs.declared.Body.the-variants as B
-use Rattle.protocol.specs.declared.Body.{Body}
 use Rattle.protocol.specs.declared.Message.{Message}
 use Rattle.protocol.specs.declared.Rules.{Rules}
 use Rattle.protocol.specs.Answers.{Answer, needsMore, ofDecoded}
 use Rattle.protocol.specs.Bytes.{numberAt}
 use Rattle.protocol.specs.Decode.{Header, more, refuse, framed, lengthBy, typedBy, untypedBy, bareBy, tagAt, headerIn, headerBy, headerOf, bodyOf, decodedBy, decodeBy, decodeOf}
 use Rattle.protocol.specs.Kinds.{Envelope, typed, untyped, bare, Kind, Mode, modeOf, kindIn}
+use Rattle.protocol.specs.Reading.{Read, got, bad}
 use Rattle.protocol.proofs.Numbers.{number-take}
 
 -- ---- one form for each envelope
@@ -51,10 +50,10 @@ header-is bare kind s = rw (empty-is (length s)) refl
 -- ---- when decoding waits
 
 -- what is read of a body is an answer
-pub body-answers : (b : Body) (end : ℕ) → ofDecoded (decodedBy b end) .needMore ≡ false
+pub body-answers : (b : Read Message) (end : ℕ) → ofDecoded (decodedBy b end) .needMore ≡ false
 unfolding decodedBy ofDecoded
-body-answers (B.Is m) end = refl
-body-answers (B.Refused number place) end = refl
+body-answers (got m next) end = refl
+body-answers (bad number place) end = refl
 
 -- so only the header `more` makes decoding wait
 waits-by : (rules : Rules) (s : List ℕ) (h : Header) → ofDecoded (decodeBy rules s h) .needMore ≡ true → h ≡ more

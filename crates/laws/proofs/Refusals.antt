@@ -17,7 +17,7 @@ use Rattle.protocol.specs.declared.Message.{Message}
 use Rattle.protocol.specs.declared.Rules.{Rules}
 use Rattle.protocol.specs.Answers.{ofDecoded}
 use Rattle.protocol.specs.Bytes.{Bytes, numberAt, signedOf}
-use Rattle.protocol.specs.Decode.{Header, more, refuse, framed, lengthBy, typedBy, untypedBy, bareBy, tagAt, headerIn, headerBy, headerOf, closed, bodyBy, readBody, decodedBy, decodeBy, decodeOf}
+use Rattle.protocol.specs.Decode.{Header, more, refuse, framed, lengthBy, typedBy, untypedBy, bareBy, tagAt, headerIn, headerBy, headerOf, closed, readBody, decodedBy, decodeBy, decodeOf}
 use Rattle.protocol.specs.Each.{Each}
 use Rattle.protocol.specs.Fields.{unsigned, signed, oneOf, text, value, rest, Field, one, counted, ended, Slot, bytes}
 use Rattle.protocol.specs.Kinds.{Envelope, typed, untyped, bare, Kind, Mode, modes, IsIn, modeOf, kindIn}
@@ -192,7 +192,7 @@ module _ (rules : Rules) (s : List ℕ) (b : Bytes s) (number place : ℕ) where
       let t = fields-fault rules f (bytes-take end s b) (k .body) (k .message) (bodyStart env) number place (sane .fields) (omega (arith, ends .0)) (rw (h .starts) at e) in
       record { mode = h .mode; known = mode .0; is = mode .1; kind = k; end = end; ends = frame-ends env (h .mode) (mode .0) k end (h .tag) (h .framing); whole = ends .1; at = t .0; fault = t .1; placed = t .2 }
 
-  body-by : (k : Kind) (start end : ℕ) → Framed rules s k start end → (x : Read Message) → readBody rules k (k .message) (take end s) start ≡ x → decodedBy (bodyBy x) end ≡ D.Refused number place → Faulty rules s number place
+  body-by : (k : Kind) (start end : ℕ) → Framed rules s k start end → (x : Read Message) → readBody rules k (k .message) (take end s) start ≡ x → decodedBy x end ≡ D.Refused number place → Faulty rules s number place
   unfolding decodedBy
   body-by k start end h (got m q) x e = let z : _≡_ {A = ℕ} 0 1 = cc in absurd (omega arith)
   body-by k start end h (bad c y) x e =

@@ -20,7 +20,7 @@ use Rattle.protocol.specs.declared.data.DataRow.{DataRow}
 use Rattle.protocol.specs.declared.Span.{Span}
 use Rattle.protocol.specs.Answers.{success, ofElement}
 use Rattle.protocol.specs.Bytes.{signedOf}
-use Rattle.protocol.specs.Decode.{Header, more, refuse, framed, tagAt, headerOf, bodyBy, closed, decodedBy, decodeBy, decodeOf}
+use Rattle.protocol.specs.Decode.{Header, more, refuse, framed, tagAt, headerOf, closed, decodedBy, decodeBy, decodeOf}
 use Rattle.protocol.specs.Elements.{readItemAt, elementBy, elementAt}
 use Rattle.protocol.specs.Fields.{AtomSlot, itemLeast, signedCount, Slot}
 use Rattle.protocol.specs.Each.{Each}
@@ -198,7 +198,7 @@ module _ (s : List ℕ) (row : DataRow) (n : ℕ) where
       find-all tagOf (Passes fromBackend (take b s)) (backend .kinds) (tagAt (backend .envelope) s) k (all-pass fromBackend (take b s)) (rw mode at (w .tag))
 
   by-end : (k : Kind) (a b : ℕ) → headerOf fromBackend s ≡ framed k a b → (v : Each Slot (k .body)) (q : ℕ) → readEach (read fromBackend) (k .body) (take b s) a ≡ got v q
-      → (t : Bool) → decodedBy (bodyBy (cond t (bad bytesLeft q) (got (k .message v) q))) b ≡ D.Record (M.DataRow row) n → Were
+      → (t : Bool) → decodedBy (cond t (bad bytesLeft q) (got (k .message v) q)) b ≡ D.Record (M.DataRow row) n → Were
   unfolding decodedBy
   by-end k a b e v q r true d = let z : _≡_ {A = ℕ} 0 1 = cc in absurd (omega arith)
   by-end k a b e v q r false d =
@@ -207,7 +207,7 @@ module _ (s : List ℕ) (row : DataRow) (n : ℕ) where
       (q, rw (← end) (kind-passes k a b e a q v row r is))
 
   by-body : (k : Kind) (a b : ℕ) → headerOf fromBackend s ≡ framed k a b → (r : Read (Each Slot (k .body))) → readEach (read fromBackend) (k .body) (take b s) a ≡ r
-      → decodedBy (bodyBy (andThen r (λ v q. closed (take b s) q (k .message v)))) b ≡ D.Record (M.DataRow row) n → Were
+      → decodedBy (andThen r (λ v q. closed (take b s) q (k .message v))) b ≡ D.Record (M.DataRow row) n → Were
   unfolding closed decodedBy
   by-body k a b e (got v q) r d = by-end k a b e v q r (ltb q (length (take b s))) d
   by-body k a b e (bad number place) r d = let z : _≡_ {A = ℕ} 0 1 = cc in absurd (omega arith)

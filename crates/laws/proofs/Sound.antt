@@ -10,7 +10,7 @@ use Rattle.protocol.specs.declared.Decoded.the-variants as D
 use Rattle.protocol.specs.declared.Message.{Message}
 use Rattle.protocol.specs.declared.Rules.{Rules}
 use Rattle.protocol.specs.Bytes.{Bytes, numberAt, be, signedOf, bitsOf}
-use Rattle.protocol.specs.Decode.{Header, more, refuse, framed, tagAt, headerOf, bodyBy, readBody, decodedBy, decodeBy, decodeOf}
+use Rattle.protocol.specs.Decode.{Header, more, refuse, framed, tagAt, headerOf, readBody, decodedBy, decodeBy, decodeOf}
 use Rattle.protocol.specs.Kinds.{Envelope, typed, untyped, bare, Kind}
 use Rattle.protocol.specs.Reading.{Read, got, bad}
 use Rattle.protocol.specs.WellFormed.{bodyBytes, lengthOf, header, bodyStart, frame, recordOf}
@@ -84,7 +84,7 @@ module _ (rules : Rules) (s : List ℕ) (b : Bytes s) where
         within = ends .1;
       }
 
-  read-by : (k : Kind) (start end : ℕ) → Framed rules s k start end → (r : Message) (n : ℕ) (x : Read Message) → readBody rules k (k .message) (take end s) start ≡ x → decodedBy (bodyBy x) end ≡ D.Record r n → Accepted rules s r n
+  read-by : (k : Kind) (start end : ℕ) → Framed rules s k start end → (r : Message) (n : ℕ) (x : Read Message) → readBody rules k (k .message) (take end s) start ≡ x → decodedBy x end ≡ D.Record r n → Accepted rules s r n
   unfolding decodedBy
   read-by k start end h r n (bad number place) x e = let z : _≡_ {A = ℕ} 0 1 = cc in absurd (omega arith)
   read-by k start end h r n (got m q) x e =

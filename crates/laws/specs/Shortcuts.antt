@@ -14,7 +14,7 @@ use Rattle.protocol.specs.declared.Encoded.{Encoded}
 use Rattle.protocol.specs.declared.Message.the-variants as M
 use Rattle.protocol.specs.declared.Rules.{Rules}
 use Rattle.protocol.specs.Bytes.{numberAt}
-use Rattle.protocol.specs.Decode.{Header, more, refuse, framed, headerOf, closed, bodyBy, bodyOf, decodedBy, decodeOf}
+use Rattle.protocol.specs.Decode.{Header, more, refuse, framed, headerOf, closed, bodyOf, decodedBy, decodeOf}
 use Rattle.protocol.specs.Elements.{elementOf}
 use Rattle.protocol.specs.Encode.{writtenBy}
 use Rattle.protocol.specs.Fields.{Field, one, counted, ended, Slot}
@@ -79,7 +79,7 @@ wordBy rules s more = D.NeedMore
 wordBy rules s (refuse number place) = D.Refused number place
 wordBy rules s (framed k start end) =
     let f = take end s in
-    decodedBy (bodyBy (andThen (readEach (atItsWord rules) (k .body) f start) (λ v q. closed f q (k .message v)))) end
+    decodedBy (andThen (readEach (atItsWord rules) (k .body) f start) (λ v q. closed f q (k .message v))) end
 
 abbrev pub countAtItsWord : Rules → List ℕ → Decoded
 countAtItsWord rules s = wordBy rules s (headerOf rules s)

@@ -8,14 +8,13 @@ use borrow.Author.Tests.{le-leb, lt-leb, leb-false}
 use lib.Dec.{leb}
 use lib.ListN.{length, take, drop, length-drop}
 use lib.Seq.{take-all}
-use Rattle.protocol.specs.declared.Body.the-variants as B
-use Rattle.protocol.specs.declared.Body.{Body}
 use Rattle.protocol.specs.declared.Decoded.the-variants as D
 use Rattle.protocol.specs.declared.Decoded.{Decoded}
 use Rattle.protocol.specs.declared.Message.{Message}
 use Rattle.protocol.specs.declared.Rules.{Rules}
 use Rattle.protocol.specs.Decode.{Header, more, refuse, framed, headerOf, decodedBy, decodeBy, decodeOf}
 use Rattle.protocol.specs.Kinds.{Envelope, typed, untyped, bare}
+use Rattle.protocol.specs.Reading.{Read, got, bad}
 use Rattle.protocol.specs.Stream.{frame, stop, whole, stepBy, stepAt}
 use Rattle.protocol.specs.WellFormed.{bodyStart}
 use Rattle.protocol.proofs.Framed.{framed-is, framed-ends}
@@ -34,10 +33,10 @@ module _ (rules : Rules) (s : List ℕ) (p : ℕ) where
 
 -- ---- a frame has a byte at least, and ends within the stream
 
-body-is : (b : Body) (end : ℕ) {m : Message} {n : ℕ} → decodedBy b end ≡ D.Record m n → end ≡ n
+body-is : (b : Read Message) (end : ℕ) {m : Message} {n : ℕ} → decodedBy b end ≡ D.Record m n → end ≡ n
 unfolding decodedBy
-body-is (B.Is x) end e = cc
-body-is (B.Refused number place) end e = let z : _≡_ {A = ℕ} 0 1 = cc in absurd (omega arith)
+body-is (got x next) end e = cc
+body-is (bad number place) end e = let z : _≡_ {A = ℕ} 0 1 = cc in absurd (omega arith)
 
 starts : (e : Envelope) → 1 ≤ bodyStart e
 starts typed = omega arith

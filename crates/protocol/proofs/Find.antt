@@ -9,9 +9,8 @@ use native.Mathlib.Omega.{arith}
 use borrow.Author.Tests.{ne-eqb}
 use lib.Dec.{T, eqb}
 use Rattle.protocol.specs.declared.Rules.{Rules}
-use Rattle.protocol.specs.declared.kinds.Bounds.the-variants as Bd
 use Rattle.protocol.specs.Bytes.{isOneOf}
-use Rattle.protocol.specs.Kinds.{Kind, Mode, modes, IsIn, find, modeOf, kindIn, boundsBy}
+use Rattle.protocol.specs.Kinds.{Kind, Mode, modes, IsIn, find, modeOf, kindIn}
 
 -- t is none of some keys, as the last arm of a `match` knows it: the last key outermost
 abbrev pub Apart : ℕ → List ℕ → Type 0
@@ -76,20 +75,12 @@ module _ {A : Type 0} (key : A → ℕ) (P : A → Type 0) where
 abbrev pub tagOf : Kind → ℕ
 tagOf k = k .tag
 
--- an arm of a `match` on a tag is a row
-pub arm : (m : Mode) {t n : ℕ} → t ≡ n → boundsBy (kindIn m n) ≡ boundsBy (kindIn m t)
-arm m e = ap (λ (t : ℕ). boundsBy (kindIn m t)) (sym e)
-
--- and its last arm is no row
+-- the last arm of a `match` on a tag is no row
 pub kind-apart : (m : Mode) (t : ℕ) → Apart t (keysOnto tagOf (m .kinds) []) → kindIn m t ≡ none
 unfolding kindIn
 kind-apart m t h = find-apart tagOf t (m .kinds) [] h .0
 
-pub no-arm : (m : Mode) (t : ℕ) → Apart t (keysOnto tagOf (m .kinds) []) → Bd.NoKind ≡ boundsBy (kindIn m t)
-unfolding boundsBy
-no-arm m t h = sym (ap boundsBy (kind-apart m t h))
-
--- the same for a byte that is one of some
+-- an arm of a `match` on a byte that is one of some, and its last arm
 pub one-of : (bs : List ℕ) {t n : ℕ} → t ≡ n → isOneOf n bs ≡ isOneOf t bs
 one-of bs e = ap (λ (t : ℕ). isOneOf t bs) (sym e)
 

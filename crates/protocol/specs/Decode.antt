@@ -6,8 +6,6 @@ use mathlib.Core.Option.{Option, some, none}
 use lib.Dec.{ltb, eqb}
 use lib.IntN.{ℤ, pos, negsuc}
 use lib.ListN.{length, take}
-use Rattle.protocol.specs.declared.Body.the-variants as B
-use Rattle.protocol.specs.declared.Body.{Body}
 use Rattle.protocol.specs.declared.Decoded.the-variants as D
 use Rattle.protocol.specs.declared.Decoded.{Decoded}
 use Rattle.protocol.specs.declared.Message.{Message}
@@ -85,23 +83,27 @@ closed f p x = cond (ltb p (length f)) (bad bytesLeft p) (got x p)
 abbrev pub readBody : {X : Type 0} → Rules → (k : Kind) → (Each Slot (k .body) → X) → List ℕ → ℕ → Read X
 readBody rules k make f p = andThen (readEach (read rules) (k .body) f p) (λ slots q. closed f q (make slots))
 
-abbrev pub bodyBy : Read Message → Body
-bodyBy (got m p) = B.Is m
-bodyBy (bad number place) = B.Refused number place
-
-abbrev pub bodyOf : Rules → Kind → List ℕ → ℕ → Body
-bodyOf rules k f p = bodyBy (readBody rules k (k .message) f p)
+abbrev pub bodyOf : Rules → Kind → List ℕ → ℕ → Read Message
+bodyOf rules k f p = readBody rules k (k .message) f p
 
 -- ---- both
 
-unfoldable pub decodedBy : Body → ℕ → Decoded
-decodedBy (B.Is m) end = D.Record m end
-decodedBy (B.Refused number place) end = D.Refused number place
+unfoldable pub decodedBy : Read Message → ℕ → Decoded
+decodedBy (got m next) end = D.Record m end
+decodedBy (bad number place) end = D.Refused number place
 
 unfoldable pub decodeBy : Rules → List ℕ → Header → Decoded
 decodeBy rules s more = D.NeedMore
 decodeBy rules s (refuse number place) = D.Refused number place
 decodeBy rules s (framed k start end) = decodedBy (bodyOf rules k (take end s) start) end
+
+-- a buffer whose tag tells the kind k: its length's checks, then its body
+abbrev pub decodeAs : Rules → Envelope → Kind → List ℕ → Decoded
+decodeAs rules e k s = decodeBy rules s (headerIn e (some k) s)
+
+-- a buffer in the mode m: its tag tells the kind, if any
+unfoldable pub decodeIn : Rules → Mode → List ℕ → Decoded
+decodeIn rules m s = decodeBy rules s (headerIn (m .envelope) (kindIn m (tagAt (m .envelope) s)) s)
 
 unfoldable pub decodeOf : Rules → List ℕ → Decoded
 decodeOf rules s = decodeBy rules s (headerOf rules s)

@@ -15,8 +15,6 @@ use Rattle.protocol.specs.declared.Message.{Message}
 use Rattle.protocol.specs.declared.Rules.{Rules}
 use Rattle.protocol.specs.declared.Span.{Span}
 use Rattle.protocol.specs.declared.data.FieldDescription.{FieldDescription}
-use Rattle.protocol.specs.declared.kinds.Bounds.the-variants as Bd
-use Rattle.protocol.specs.declared.kinds.Bounds.{Bounds}
 use Rattle.protocol.specs.Each.{Each}
 use Rattle.protocol.specs.Fields.{Atom, unsigned, signed, oneOf, text, value, rest, AtomSlot, Item, signedCount, Field, one, counted, ended, Slot}
 use Rattle.protocol.specs.Records as R
@@ -313,21 +311,6 @@ find key k (x ∷ xs) = cond (eqb k (key x)) (some x) (find key k xs)
 unfoldable pub modeOf : Rules → Option Mode
 modeOf rules = find (λ (m : Mode). m .mode) (rules .mode) modes
 
+-- the kind of a mode that a type byte, a code or an answer byte tells
 unfoldable pub kindIn : Mode → ℕ → Option Kind
 kindIn m tag = find (λ (k : Kind). k .tag) tag (m .kinds)
-
--- the kind that a type byte, a code or an answer byte tells
-unfoldable pub kindBy : Option Mode → ℕ → Option Kind
-kindBy none tag = none
-kindBy (some m) tag = kindIn m tag
-
-unfoldable pub kindOf : Rules → ℕ → Option Kind
-kindOf rules tag = kindBy (modeOf rules) tag
-
--- its smallest length and its limit
-unfoldable pub boundsBy : Option Kind → Bounds
-boundsBy none = Bd.NoKind
-boundsBy (some k) = Bd.Between (k .smallest) (k .limit)
-
-unfoldable pub boundsOf : Rules → ℕ → Bounds
-boundsOf rules tag = boundsBy (kindOf rules tag)

@@ -92,12 +92,6 @@ pub enum Message {
     GssEncResponse(GssEncResponse),
 }
 
-// What a kind's decoder answers of a whole frame: its message, or a refusal's number and place.
-pub enum Body {
-    Is(Message),
-    Refused(u8, usize),
-}
-
 // What decoding answers: the record and the bytes consumed, need-more, or a refusal's number and place.
 pub enum Decoded {
     Record(Message, usize),

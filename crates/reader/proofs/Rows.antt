@@ -12,8 +12,6 @@ use lib.IntN.{ℤ}
 use lib.ListN.{length, take}
 use types.Run.{OneOf}
 use denote.Enum.Declared.{tagOf}
-use Rattle.protocol.specs.declared.Body.the-variants as B
-use Rattle.protocol.specs.declared.Body.{Body}
 use Rattle.protocol.specs.declared.Decoded.the-variants as D
 use Rattle.protocol.specs.declared.Decoded.{Decoded}
 use Rattle.protocol.specs.declared.Message.the-variants as M
@@ -24,6 +22,7 @@ use Rattle.protocol.proofs.Message as T
 use Rattle.protocol.specs.declared.List.{List as ListSlot}
 use Rattle.protocol.specs.declared.Rules.{Rules}
 use Rattle.protocol.specs.Decode.{Header, more, refuse, framed, headerOf, bodyOf, decodedBy, decodeBy, decodeOf}
+use Rattle.protocol.specs.Reading.{Read, got, bad}
 use Rattle.protocol.specs.Refusals.{noSuchElement, outputTooShort}
 use Rattle.protocol.specs.Rules.{rulesOf}
 use Rattle.reader.specs.declared.row.Row.the-variants as R
@@ -109,9 +108,9 @@ decoded-by rules s more m n e d = let z : _≡_ {A = ℕ} 0 1 = cc in absurd (om
 decoded-by rules s (refuse number place) m n e d = let z : _≡_ {A = ℕ} 0 1 = cc in absurd (omega arith)
 decoded-by rules s (framed k start end) m n e d = rw (← consumed (bodyOf rules k (take end s) start) d) (framed-ends rules s k start end (framed-is rules s k start end e) .1)
   where
-    consumed : (b : Body) → decodedBy b end ≡ D.Record m n → end ≡ n
-    consumed (B.Is x) q = cc
-    consumed (B.Refused number place) q = let z : _≡_ {A = ℕ} 0 1 = cc in absurd (omega arith)
+    consumed : (b : Read Message) → decodedBy b end ≡ D.Record m n → end ≡ n
+    consumed (got x next) q = cc
+    consumed (bad number place) q = let z : _≡_ {A = ℕ} 0 1 = cc in absurd (omega arith)
 
 pub record IsRow (s : List ℕ) (starts lengths : ℕ) (l : ListSlot) (n : ℕ) : Type 0 where
   pub within : n ≤ length s

@@ -7,7 +7,7 @@ use Rattle.protocol.specs.Kinds as K
 use Rattle.protocol.specs.declared.Body.{Body}
 use Rattle.protocol.specs.declared.Message.{Message}
 use Rattle.protocol.specs.declared.Rules.{Rules}
-use Rattle.bodies.specs.Steps.{bodyTold, refusalOf}
+use Rattle.messages.specs.Steps.{bodyTold, refusalOf}
 use Rattle.codec.specs.declared.Cursor.{Cursor}
 use Rattle.codec.specs.declared.Listed.{Listed}
 use Rattle.laws.specs.Tight.{Determines}

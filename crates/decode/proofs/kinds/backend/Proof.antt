@@ -3,7 +3,7 @@ use mathlib.Core.Path.{refl, ap, sym, _∙_}
 use borrow.Author.Needs.{needs}
 use Rattle.protocol.specs.Kinds.{backend}
 use Rattle.codec.specs.Answers.{byteRead}
-use Rattle.bodies.proofs.Told.{told-cut, told-arm}
+use Rattle.messages.proofs.Told.{told-cut, told-arm}
 use Rattle.decode.proofs.kinds.backend.Statement.{statement}
 use Rattle.decode.proofs.kinds.backend.Tie as tie
 

@@ -1,0 +1,91 @@
+-- What the steps of a kind's decoder answer.
+use Prim.Native.Nat.{ℕ, _+_}
+use mathlib.Core.Bool.{cond}
+use mathlib.Core.List.{List, [], _∷_}
+use lib.Dec.{ltb, eqb}
+use lib.IntN.{ℤ, pos, negsuc}
+use lib.ListN.{length, take}
+use Rattle.protocol.specs.declared.Decoded.the-variants as D
+use Rattle.protocol.specs.declared.Decoded.{Decoded}
+use Rattle.protocol.specs.declared.Message.{Message}
+use Rattle.protocol.specs.declared.Rules.{Rules}
+use Rattle.protocol.specs.declared.kinds.Bounds.{Bounds}
+use Rattle.protocol.specs.Bytes.{numberAt, signedOf}
+use Rattle.protocol.specs.Decode.{closed, decodedBy}
+use Rattle.protocol.specs.Each.{Each}
+use Rattle.protocol.specs.Fields.{Field, Slot}
+use Rattle.protocol.specs.Kinds.{Envelope, typed, untyped, bare, Kind, target, string, i8, formats, close, describe, copyInResponse, copyOutResponse, copyBothResponse}
+use Rattle.protocol.specs.Reading.{Read, andThen, read, readEach}
+use Rattle.protocol.specs.Refusals.{lengthTooSmall, lengthAboveLimit}
+use Rattle.protocol.specs.WellFormed.{bodyStart}
+use Rattle.codec.specs.declared.Listed.the-variants as L
+use Rattle.codec.specs.declared.Listed.{Listed}
+use Rattle.messages.specs.declared.copy.Direction.the-variants as D′
+use Rattle.messages.specs.declared.copy.Direction.{Direction}
+use Rattle.messages.specs.declared.envelope.Header.the-variants as H
+use Rattle.messages.specs.declared.envelope.Header.{Header}
+use Rattle.messages.specs.declared.extendedquery.Act.the-variants as A
+use Rattle.messages.specs.declared.extendedquery.Act.{Act}
+
+-- ---- the envelope
+
+-- the length's checks. The length word stands at p, and there are `have` bytes
+unfoldable pub endOf : Bounds → ℕ → ℕ → ℤ → Header
+endOf b p have (negsuc n) = H.Refused lengthTooSmall p
+endOf b p have (pos n) =
+    cond (ltb n (b .0)) (H.Refused lengthTooSmall p)
+    (cond (ltb (b .1) n) (H.Refused lengthAboveLimit p)
+    (cond (ltb have (p + n)) H.NeedMore (H.Frame (p + n))))
+
+-- where a frame of a kind with these bounds ends
+unfoldable pub endIn : Envelope → Bounds → List ℕ → Header
+endIn typed b s = cond (ltb (length s) 5) H.NeedMore (endOf b 1 (length s) (signedOf 4 (numberAt 4 s 1)))
+endIn untyped b s = cond (ltb (length s) 8) H.NeedMore (endOf b 0 (length s) (signedOf 4 (numberAt 4 s 0)))
+endIn bare b s = cond (eqb (length s) 0) H.NeedMore (H.Frame 1)
+
+abbrev pub unframedOf : Header → Decoded
+unframedOf (H.Frame end) = D.NeedMore
+unframedOf H.NeedMore = D.NeedMore
+unframedOf (H.Refused number place) = D.Refused number place
+
+-- ---- the body
+
+-- the refusal of a list. (A list that was read is never asked; it has no number, and its place is the next)
+abbrev pub refusalOf : Listed → Decoded
+refusalOf (L.Refused number place) = D.Refused number place
+refusalOf (L.Is l c) = D.Refused 0 (c .at)
+
+-- what is left to read of a whole frame f from p on: these fields, and what is made of their slots
+abbrev pub leftOf : Rules → (xs : List Field) → (Each Slot xs → Message) → List ℕ → ℕ → Decoded
+leftOf rules xs make f p = decodedBy (andThen (readEach (read rules) xs f p) (λ slots q. closed f q (make slots))) (length f)
+
+-- ---- both
+
+-- a whole frame of the buffer s is read on; else it is answered why there is none
+abbrev pub framedBy : Header → List ℕ → (List ℕ → Decoded) → Decoded
+framedBy (H.Frame end) s body = body (take end s)
+framedBy H.NeedMore s body = D.NeedMore
+framedBy (H.Refused number place) s body = D.Refused number place
+
+-- a buffer of a kind with these bounds and this body, and what is made of its slots: for a body that several kinds have
+abbrev pub decodeMade : Rules → Envelope → Bounds → (xs : List Field) → (Each Slot xs → Message) → List ℕ → Decoded
+decodeMade rules e b xs make s = framedBy (endIn e b s) s (λ f. leftOf rules xs make f (bodyStart e))
+
+-- a target byte and a name: Close and Describe
+abbrev pub aimFields : List Field
+aimFields = target ∷ string ∷ []
+
+abbrev pub aimMessage : Act → Each Slot aimFields → Message
+unfolding close describe
+aimMessage A.Close = close .message
+aimMessage A.Describe = describe .message
+
+-- a format and the columns' formats: the three copy responses
+abbrev pub copyFields : List Field
+copyFields = i8 ∷ formats ∷ []
+
+abbrev pub copyMessage : Direction → Each Slot copyFields → Message
+unfolding copyInResponse copyOutResponse copyBothResponse
+copyMessage D′.In = copyInResponse .message
+copyMessage D′.Out = copyOutResponse .message
+copyMessage D′.Both = copyBothResponse .message
