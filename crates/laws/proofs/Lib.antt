@@ -25,7 +25,6 @@ pub mod NeedMore
 pub mod InOrder
 pub mod RowEntries
 pub mod ByName
-pub mod Tight
 pub mod Numbered
 pub mod RowAnswers
 pub mod Lent

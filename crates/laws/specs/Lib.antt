@@ -15,4 +15,3 @@ pub mod ListingStatements
 pub mod Lent
 pub mod Shortcuts
 pub mod Rejected
-pub mod Tight
