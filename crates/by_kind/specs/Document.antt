@@ -16,9 +16,8 @@ use Rattle.protocol.specs.declared.response.SslResponse.the-variants as Ssl
 use Rattle.protocol.specs.Each.{Each}
 use Rattle.protocol.specs.Fields as F
 use Rattle.protocol.specs.Fields.{Atom, AtomSlot, Item, signedCount, Field, Slot}
-use Rattle.protocol.specs.Kinds.{Envelope, typed, untyped, bare, Kind, Mode}
-use Rattle.protocol.specs.Names.{nameOf}
-use Rattle.laws.specs.FieldNames.{Holds, number, integer, part, orNull, list, Named, fieldsOf, elementFields}
+use Rattle.protocol.specs.Kinds.{Envelope, typed, untyped, bare, Kind, Mode, tlsAnswer, gssAnswer, IsIn}
+use Rattle.by_kind.specs.FieldNames.{Holds, number, integer, part, orNull, list, Named, fieldsOf, elementFields}
 
 infix 80 _∶_
 -- ---- the words of the tables
@@ -77,7 +76,7 @@ formats name = n name ("format" ∶ i 16 ∷ [])
 abbrev errors : Column
 errors = untilZero "fields" ("code" ∶ u 8 ∷ "string" ∶ string ∷ [])
 
-abbrev frontend : List Line
+abbrev pub frontend : List Line
 frontend =
     line "Parse" "P" 8 L (one ("name" ∶ string) ∷ one ("query" ∶ string) ∷ n "type_oids" ("oid" ∶ u 32 ∷ []) ∷ [])
     ∷ line "Bind" "B" 12 L
@@ -97,7 +96,7 @@ frontend =
     ∷ line "CopyFail" "f" 5 house (one ("message" ∶ string) ∷ [])
     ∷ []
 
-abbrev backend : List Line
+abbrev pub backend : List Line
 backend =
     line "ParseComplete" "1" 4 house []
     ∷ line "BindComplete" "2" 4 house []
@@ -208,9 +207,9 @@ columns (x ∷ xs) (name ∷ names) = column x name ∷ columns xs names
 abbrev pub recordNames : Kind → List String
 recordNames k = namesOf (fieldsOf (k .message (blanks (k .body))))
 
-abbrev lineOf : Kind → Line
+abbrev pub lineOf : Kind → Line
 lineOf k = record {
-  name = nameOf (k .message (blanks (k .body)));
+  name = k .name;
   tag = k .tag;
   smallest = k .smallest;
   limit = k .limit;
@@ -268,3 +267,12 @@ tlsBytes = record { byte = code "S"; is = M.SslResponse Ssl.Accept } ∷ record 
 
 abbrev pub gssBytes : List Byte
 gssBytes = record { byte = code "G"; is = M.GssEncResponse Gss.Accept } ∷ record { byte = code "N"; is = M.GssEncResponse Gss.Refuse } ∷ []
+
+-- ---- the statement
+
+-- The table of kinds has the document's lines, with its bodies; a record holds what was read of each field under the line's name for it, and so does an
+-- element of each of its lists; and each answer byte of modes 3 and 4 is the answer that the document says.
+pub record TableIsDocument (table : List Mode) : Type 0 where
+  pub lines : map lines table ≡ document
+  pub records : (m : Mode) → IsIn m table → (k : Kind) → IsIn k (m .kinds) → RecordNamed k × ItemsNamed (k .body)
+  pub answers : (bytesOf tlsAnswer ≡ tlsBytes) × (bytesOf gssAnswer ≡ gssBytes)
