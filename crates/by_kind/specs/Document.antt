@@ -185,10 +185,10 @@ blanks (x ∷ xs) = record { 0 = blank x; 1 = blanks xs }
 abbrev pub namesOf : List Named → List String
 namesOf xs = map (λ (x : Named). x .name) xs
 
--- a name for each; a body with more or fewer fields than its record has names is no line of the document
+-- a name for each; what the record has no name for is still there, under no name, so that nothing that stands on the wire is left out
 abbrev things : List Atom → List String → List Thing
 things [] names = []
-things (a ∷ xs) [] = []
+things (a ∷ xs) [] = "" ∶ wireOf a ∷ things xs []
 things (a ∷ xs) (name ∷ names) = name ∶ wireOf a ∷ things xs names
 
 abbrev pub itemNames : Item → List String
@@ -201,7 +201,7 @@ column (F.ended item) name = untilZero name (things (item .atoms) (itemNames ite
 
 abbrev columns : List Field → List String → List Column
 columns [] names = []
-columns (x ∷ xs) [] = []
+columns (x ∷ xs) [] = column x "" ∷ columns xs []
 columns (x ∷ xs) (name ∷ names) = column x name ∷ columns xs names
 
 abbrev pub recordNames : Kind → List String
@@ -234,10 +234,10 @@ held (F.one a) v = heldAtom a v
 held (F.counted k item) v = list v
 held (F.ended item) v = list v
 
--- each of some, under the names in their order
+-- each of some, under the names in their order; under no name where these run out
 abbrev under : {X : Type 0} {S : X → Type 0} → ((x : X) → S x → Holds) → (xs : List X) → Each S xs → List String → List Named
 under hold [] v names = []
-under hold (x ∷ xs) v [] = []
+under hold (x ∷ xs) v [] = record { name = ""; holds = hold x (v .0) } ∷ under hold xs (v .1) []
 under hold (x ∷ xs) v (name ∷ names) = record { name = name; holds = hold x (v .0) } ∷ under hold xs (v .1) names
 
 abbrev pub RecordNamed : Kind → Type 0
