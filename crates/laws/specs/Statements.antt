@@ -12,7 +12,7 @@ use Rattle.protocol.specs.declared.Decoded.{Decoded}
 use Rattle.protocol.specs.declared.Element.{Element}
 use Rattle.protocol.specs.declared.Message.{Message}
 use Rattle.protocol.specs.declared.Rules.{Rules}
-use Rattle.protocol.specs.Answers.{Answer, success, needsMore, refusal, Unsuccessful, ofDecoded}
+use Rattle.protocol.specs.Answers.{Answer, success, needsMore, refusal, ofDecoded}
 use Rattle.protocol.specs.Bytes.{Bytes, isOneOf}
 use Rattle.protocol.specs.Decode.{decodeOf}
 use Rattle.protocol.specs.Each.{Each, leastOfEach}
@@ -124,10 +124,13 @@ OneFault =
     (rules : Rules) (s : List ℕ) (number place number′ place′ : ℕ) → FaultOf rules s number place → FaultOf rules s number′ place′
     → (number ≡ number′) × (place ≡ place′)
 
--- 9. Numbered. A refusal has a number from 1 to 8; and a refusal or need-more consumes 0 and gives no record.
+-- 9. Numbered. A refusal has a number from 1 to 8; and a refusal or need-more, told by the answer's own marks, consumes 0 and gives no record.
+abbrev pub GivesNothing : {X : Type 0} → Answer X → Type 0
+GivesNothing a = (a .needMore ≡ true) ⊎ (1 ≤ a .number) → (a .consumed ≡ 0) × (a .value ≡ none)
+
 pub record IsNumbered {X : Type 0} (numbers : List ℕ) (a : Answer X) : Type 0 where
   pub number : (number place : ℕ) → a ≡ refusal number place → isOneOf number numbers ≡ true
-  pub nothing : Unsuccessful a → (a .consumed ≡ 0) × (a .value ≡ none)
+  pub nothing : GivesNothing a
 
 abbrev pub decodeNumbers : List ℕ
 decodeNumbers = 1 ∷ 2 ∷ 3 ∷ 4 ∷ 5 ∷ 6 ∷ 7 ∷ 8 ∷ []
