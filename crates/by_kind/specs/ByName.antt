@@ -1,5 +1,6 @@
 -- What an encoder wrote comes back under the names of its arguments: kind by kind, the encoder with its arguments, and beside it the record that decoding
--- gives, each field with the argument of its name. EncodeStatements says the round trip of contents, which are known by their places; here nothing is.
+-- gives, each field with the argument of its name. EncodeStatements (laws) says the round trip of contents, which are known by their places; here the
+-- arguments alone are: which is which is read off the `ensures` line of the encoder, where `G.bind` and its like are applied by position.
 use Prim.Native.Nat.{ℕ, _≤_}
 use mathlib.Core.List.{List, _++_}
 use mathlib.Core.Option.{Option, some, none}

@@ -270,8 +270,8 @@ gssBytes = record { byte = code "G"; is = M.GssEncResponse Gss.Accept } ∷ reco
 
 -- ---- the statement
 
--- The table of kinds has the document's lines, with its bodies; a record holds what was read of each field under the line's name for it, and so does an
--- element of each of its lists; and each answer byte of modes 3 and 4 is the answer that the document says.
+-- The table of kinds has the document's lines, with its bodies; a record holds what was read of each field under the line's name for it, and so does
+-- an element of each of its lists; and each answer byte of modes 3 and 4 is the answer that the document says.
 pub record TableIsDocument (table : List Mode) : Type 0 where
   pub lines : map lines table ≡ document
   pub records : (m : Mode) → IsIn m table → (k : Kind) → IsIn k (m .kinds) → RecordNamed k × ItemsNamed (k .body)

@@ -32,4 +32,6 @@ Steps decode = (rules : Rules) (s : List ℕ) (p : ℕ) (step : Step) → stepOf
 
 -- A step that is refused has a number from 1 to 8; and one that is refused or needs more consumes 0 and gives no message.
 abbrev pub StepsNumbered : Type 0
-StepsNumbered = (rules : Rules) (s : List ℕ) (p : ℕ) (step : Step) → Bytes s → stepOf step ≡ stepAt rules s p → IsNumbered decodeNumbers (ofStep p step)
+StepsNumbered =
+    (rules : Rules) (s : List ℕ) (p : ℕ) (step : Step) → Bytes s → stepOf step ≡ stepAt rules s p
+    → IsNumbered decodeNumbers (ofStep p step)
