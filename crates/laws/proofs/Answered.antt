@@ -1,6 +1,6 @@
 -- An answer that is set out loses nothing: it tells its case again. So what is known of the setting out is known of the answer.
 use Prim.Native.Nat.{ℕ}
-use mathlib.Core.Bool.{true, cond}
+use mathlib.Core.Bool.{true, cond, false≢true}
 use mathlib.Core.Logic.{inl, inr}
 use mathlib.Core.Option.{Option, some, none}
 use mathlib.Core.Path.{_≡_, refl, ap, sym, _∙_}
@@ -126,6 +126,9 @@ row-is {r} e = sym (row-back r) ∙ ap rowFrom e
 
 pub refusal-is : {X : Type 0} {a b c d : ℕ} → refusal {X = X} a b ≡ refusal c d → (a ≡ c) × (b ≡ d)
 refusal-is {X} e = (ap (λ (a : Answer X). a .number) e, ap (λ (a : Answer X). a .place) e)
+
+pub needs-refusal : {X : Type 0} {number place : ℕ} → needsMore {X = X} ≡ refusal number place → ⊥
+needs-refusal {X} e = false≢true (sym (ap (λ (a : Answer X). a .needMore) e))
 
 pub not-success : {X : Type 0} {x : X} {n : ℕ} → Unsuccessful (success x n) → ⊥
 not-success {X} (inl e) = let v = ap (λ (a : Answer X). a .value) e in let z : _≡_ {A = ℕ} 0 1 = cc in omega arith

@@ -34,7 +34,7 @@ use Rattle.laws.proofs.Answered.{refused, element-is, element-refused, 
 use Rattle.laws.proofs.Elements.{elements}
 use Rattle.laws.proofs.Faults.{handed}
 use Rattle.laws.proofs.Headers.{body-answers, header-again}
-use Rattle.laws.proofs.Speaking.{Speaks, Speaking, row-speaks, not-values, OfList, found-of}
+use Rattle.laws.proofs.Speaking.{Speaks, Speaking, row-speaks, OfList, found-of}
 use Rattle.laws.proofs.Table.{mode-found, kind-found}
 
 -- ---- a body that is refused is refused whatever is made of its slots
@@ -157,15 +157,16 @@ unfolding valueOr
 refused-empty s stand e (inl h) = rw (element-waits h) refl
 refused-empty s stand e (inr (number, place, h)) = rw (element-refused h) refl
 
-other-empty : (s stand : List ℕ) (o : Option Found) (e : Element) → OfList false o → Answers s o e → valueOr s stand e ≡ take 0 stand
+other-empty : (s stand : List ℕ) (list : Option Item) → (list ≡ some nullable → ⊥) → (o : Option Found) (e : Element) → OfList list o → Answers s o e → valueOr s stand e ≡ take 0 stand
 unfolding OfList
-other-empty s stand none e t a = refused-empty s stand e (inr (noSuchElement, 0, a))
-other-empty s stand (some x) e t a = rw (element-is (a .is)) (t .0 .plain (t .1) s stand (itemSlots (x .item) (x .place) (x .content)))
+other-empty s stand list other none e t a = refused-empty s stand e (inr (noSuchElement, 0, a))
+other-empty s stand list other (some x) e t a =
+    rw (element-is (a .is)) (t .0 .plain (λ q. other (t .1 ∙ ap some q)) s stand (itemSlots (x .item) (x .place) (x .content)))
 
 pub emptyStarts : EmptyStarts theElementCall
 emptyStarts = record {
   refused = λ rules s stand l n h. refused-empty s stand _ h;
-  others = λ rules m k c t stand l n w no.
+  others = λ rules m k c t stand l n w other.
       let f = found-of (k .body) (row-speaks m (w .known) k (w .kind)) (bodyStart (m .envelope)) c l n in
-      other-empty _ stand _ _ (rw (not-values m (w .known) k (w .kind) l no) at f) (elements rules m k c t l n w);
+      other-empty _ stand _ other _ _ f (elements rules m k c t l n w);
 }

@@ -23,7 +23,7 @@ use Rattle.protocol.specs.Refusals.{noSuchElement}
 use Rattle.protocol.specs.WellFormed.{Contents, bodyBytes, header, bodyStart, frame, WellFormed}
 use Rattle.protocol.proofs.Find.{every}
 use Rattle.laws.specs.ElementStatements.{Elements}
-use Rattle.laws.specs.Items.{Found, itemFrom, found, AtomsPlaced, Answers}
+use Rattle.laws.specs.Items.{Found, itemFrom, found, listItem, AtomsPlaced, Answers}
 use Rattle.laws.specs.Statements.{theElementCall}
 use Rattle.laws.proofs.Bodies.{saneField}
 use Rattle.laws.proofs.Complete.{header-long, frame-back, content-back}
@@ -31,7 +31,7 @@ use Rattle.laws.proofs.Fields.{atom-placed}
 use Rattle.laws.proofs.Items.{both, saneItem, item-back}
 use Rattle.laws.proofs.Numbers.{length-be}
 use Rattle.laws.proofs.Rows.{row-sane}
-use Rattle.laws.proofs.Speaking.{row-speaks, valueList, OfList, found-of}
+use Rattle.laws.proofs.Speaking.{row-speaks, OfList, found-of}
 use Rattle.laws.proofs.Table.{and-left, and-right}
 
 -- what is answered of an item that was found, or of none
@@ -165,10 +165,10 @@ found-placed (ended i ∷ xs) c (suc l) n pre post = placed-after (ended i) xs c
 
 -- ---- the theorem
 
-answers : (s : List ℕ) (o : Option Found) (e : Element) → e ≡ answerOf o → Placed s o → (b : Bool) → OfList b o → Answers s o e
+answers : (s : List ℕ) (o : Option Found) (e : Element) → e ≡ answerOf o → Placed s o → (list : Option Item) → OfList list o → Answers s o e
 unfolding Placed OfList ofElement
-answers s none e h p b t = ap ofElement h
-answers s (some x) e h p b t = record { is = ap ofElement h ∙ t .0 .answers (itemSlots (x .item) (x .place) (x .content)); placed = p }
+answers s none e h p list t = ap ofElement h
+answers s (some x) e h p list t = record { is = ap ofElement h ∙ t .0 .answers (itemSlots (x .item) (x .place) (x .content)); placed = p }
 
 pub element-is : (rules : Rules) (m : Mode) (k : Kind) (c : Contents k) (t : List ℕ) (l n : ℕ) → WellFormed rules m k c → elementOf rules (frame (m .envelope) k c ++ t) l n ≡ answerOf (found (k .body) (bodyStart (m .envelope)) c l n)
 unfolding elementOf elementIn elementBy Found-at frame bodyBytes
@@ -188,4 +188,4 @@ elements rules m k c t l n w =
     let h = header e (k .tag) (length b) in
     let placed = rw (header-long e (k .tag) (length b), ← append-assoc h b t) at (found-placed (k .body) c l n h t) in
     let says = found-of (k .body) (row-speaks m (w .known) k (w .kind)) (bodyStart e) c l n in
-    answers (frame e k c ++ t) (found (k .body) (bodyStart e) c l n) _ (element-is rules m k c t l n w) placed (valueList (k .body) l) says
+    answers (frame e k c ++ t) (found (k .body) (bodyStart e) c l n) _ (element-is rules m k c t l n w) placed (listItem (k .body) l) says

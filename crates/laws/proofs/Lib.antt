@@ -24,8 +24,6 @@ pub mod MoreBytes
 pub mod NeedMore
 pub mod InOrder
 pub mod RowEntries
-pub mod ByName
-pub mod Tight
 pub mod Numbered
 pub mod RowAnswers
 pub mod Lent

@@ -1,31 +1,71 @@
 -- The numbers that refusals have, and that a refusal or need-more consumes nothing and gives nothing: of decoding, element calls and encoders.
 use Prim.Native.Nat.{ℕ}
-use mathlib.Core.Bool.{Bool, true}
+use mathlib.Core.Bool.{Bool, true, false, _||_, false≢true}
 use mathlib.Core.List.{List, [], _∷_, _++_}
 use mathlib.Core.Logic.{inl, inr, ⊎-elim}
-use mathlib.Core.Option.{Option, some, none}
-use mathlib.Core.Path.{_≡_, refl, ap, sym, _∙_}
+use mathlib.Core.Path.{_≡_, refl}
 use native.Mathlib.Omega.{arith}
-use lib.ListN.{length, take, drop, take-append-drop}
+use lib.Dec.{eqb}
 use Rattle.protocol.specs.declared.Decoded.the-variants as D
 use Rattle.protocol.specs.declared.Decoded.{Decoded}
-use Rattle.protocol.specs.declared.Message.{Message}
+use Rattle.protocol.specs.declared.Element.the-variants as E
+use Rattle.protocol.specs.declared.Element.{Element}
+use Rattle.protocol.specs.declared.Encoded.the-variants as N
+use Rattle.protocol.specs.declared.Encoded.{Encoded}
 use Rattle.protocol.specs.declared.Rules.{Rules}
-use Rattle.protocol.specs.Answers.{Answer, success, needsMore, refusal, Unsuccessful, ofDecoded}
-use Rattle.protocol.specs.Bytes.{Bytes, isOneOf}
+use Rattle.protocol.specs.Answers.{success, needsMore, refusal, ofDecoded, ofElement, ofEncoded}
+use Rattle.protocol.specs.Bytes.{isOneOf}
 use Rattle.protocol.specs.Fields.{Atom, unsigned, signed, oneOf, text, value, rest, Field, one, counted, ended}
 use Rattle.protocol.specs.Kinds.{Envelope, typed, untyped, bare, Kind}
 use Rattle.laws.specs.Faults.{AtomFault, AtomsFault, here, later, FieldFault, BodyFault, left, here, later, LengthFault, HeaderFault}
-use Rattle.laws.specs.Statements.{FaultOf, IsNumbered, decodeNumbers, Numbered, theDecoder}
+use Rattle.laws.specs.Statements.{FaultOf, GivesNothing, decodeNumbers, Numbered, theDecoder}
 use Rattle.laws.proofs.Refusals.{refusals}
 
 -- ---- a refusal or need-more consumes nothing and gives nothing
 
-pub nothing : {X : Type 0} (a : Answer X) → Unsuccessful a → (a .consumed ≡ 0) × (a .value ≡ none)
-nothing a (inl e) = rw e (refl, refl)
-nothing a (inr (number, place, e)) = rw e (refl, refl)
+pub success-nothing : {X : Type 0} {x : X} {n : ℕ} → GivesNothing (success x n)
+success-nothing (inl e) = absurd (false≢true e)
+success-nothing (inr h) = absurd (omega arith)
+
+pub needs-nothing : {X : Type 0} → GivesNothing (needsMore {X = X})
+needs-nothing h = (refl, refl)
+
+pub refusal-nothing : {X : Type 0} (number place : ℕ) → GivesNothing (refusal {X = X} number place)
+refusal-nothing number place h = (refl, refl)
+
+decoded-nothing : (d : Decoded) → GivesNothing (ofDecoded d)
+unfolding ofDecoded
+decoded-nothing (D.Record m n) = success-nothing
+decoded-nothing D.NeedMore = needs-nothing
+decoded-nothing (D.Refused number place) = refusal-nothing number place
+
+pub element-nothing : (e : Element) → GivesNothing (ofElement e)
+unfolding ofElement
+element-nothing (E.Oid n) = success-nothing
+element-nothing (E.Format z) = success-nothing
+element-nothing E.Null = success-nothing
+element-nothing (E.Value s) = success-nothing
+element-nothing (E.Field d) = success-nothing
+element-nothing (E.ErrorField c s) = success-nothing
+element-nothing E.NeedMore = needs-nothing
+element-nothing (E.Refused number place) = refusal-nothing number place
+
+pub encoded-nothing : (r : Encoded) → GivesNothing (ofEncoded r)
+unfolding ofEncoded
+encoded-nothing (N.Done n) = success-nothing
+encoded-nothing (N.Refused number place) = refusal-nothing number place
 
 -- ---- the number of a fault
+
+-- one of some numbers is one of more
+one-of-by : (n x : ℕ) (t : Bool) (xs ys : List ℕ) → (isOneOf n xs ≡ true → isOneOf n (xs ++ ys) ≡ true) → t || isOneOf n xs ≡ true → t || isOneOf n (xs ++ ys) ≡ true
+one-of-by n x true xs ys ih h = refl
+one-of-by n x false xs ys ih h = ih h
+
+pub one-of-more : (n : ℕ) (xs ys : List ℕ) → isOneOf n xs ≡ true → isOneOf n (xs ++ ys) ≡ true
+unfolding isOneOf
+one-of-more n [] ys h = absurd (false≢true h)
+one-of-more n (x ∷ xs) ys h = one-of-by n x (eqb n x) xs ys (one-of-more n xs ys) h
 
 One : ℕ → Type 0
 One number = isOneOf number decodeNumbers ≡ true
@@ -86,4 +126,4 @@ fault-number rules s number place (inr (inr h)) = body-number rules (h .kind .bo
 
 pub numbered : Numbered theDecoder
 unfolding One
-numbered rules s b = record { number = λ number place e. fault-number rules s number place (refusals rules s number place b .0 e); nothing = nothing _ }
+numbered rules s b = record { number = λ number place e. fault-number rules s number place (refusals rules s number place b .0 e); nothing = decoded-nothing _ }

@@ -1,12 +1,11 @@
 -- Whatever meets the statements of a page gives the same answers: they leave one decoder, one element call and one encoder.
 use Prim.Native.Nat.{ℕ}
-use mathlib.Core.Bool.{Bool, true, false, _||_, false≢true}
+use mathlib.Core.Bool.{true, false≢true}
 use mathlib.Core.List.{List, [], _∷_, _++_}
 use mathlib.Core.Logic.{inl, inr}
 use mathlib.Core.Option.{Option, some, none}
 use mathlib.Core.Path.{_≡_, refl, ap, sym, _∙_}
 use native.Mathlib.Omega.{arith}
-use lib.Dec.{eqb}
 use lib.ListN.{length, take, drop, take-append-drop}
 use Rattle.protocol.specs.declared.Decoded.the-variants as D
 use Rattle.protocol.specs.declared.Decoded.{Decoded}
@@ -27,7 +26,7 @@ use Rattle.laws.proofs.ElementCalls.{refusedFirst, elementsNeedMore}
 use Rattle.laws.proofs.Elements.{elements}
 use Rattle.laws.proofs.Encoding.{Says, ten, four, nine, done, encoder-says, exactly, unchanged}
 use Rattle.laws.proofs.NeedMore.{needMore}
-use Rattle.laws.proofs.Numbered.{nothing, numbered}
+use Rattle.laws.proofs.Numbered.{element-nothing, encoded-nothing, one-of-more, numbered}
 use Rattle.laws.proofs.Refusals.{refusals}
 use Rattle.laws.proofs.Sound.{sound}
 
@@ -86,15 +85,6 @@ one-element-call other items first waiting rules s l n b = by (case rules s b)
 
 -- ---- the numbers of an element call's refusals
 
-one-of-by : (n x : ℕ) (t : Bool) (xs ys : List ℕ) → (isOneOf n xs ≡ true → isOneOf n (xs ++ ys) ≡ true) → t || isOneOf n xs ≡ true → t || isOneOf n (xs ++ ys) ≡ true
-one-of-by n x true xs ys ih h = refl
-one-of-by n x false xs ys ih h = ih h
-
-one-of-more : (n : ℕ) (xs ys : List ℕ) → isOneOf n xs ≡ true → isOneOf n (xs ++ ys) ≡ true
-unfolding isOneOf
-one-of-more n [] ys h = absurd (false≢true h)
-one-of-more n (x ∷ xs) ys h = one-of-by n x (eqb n x) xs ys (one-of-more n xs ys) h
-
 found-number : (s : List ℕ) (x : Option Found) (e : Element) → Answers s x e → (number place : ℕ) → ofElement e ≡ refusal number place → isOneOf number elementNumbers ≡ true
 unfolding isOneOf
 found-number s none e a number place h = let q : 11 ≡ number = refusal-is (sym a ∙ h) .0 in rw (← q) refl
@@ -110,16 +100,16 @@ case-number rules s l n b (refuses c p e) number place h =
     rw (← q) (one-of-more c decodeNumbers (11 ∷ []) (numbered rules s b .number c p e))
 
 pub elements-numbered : ElementsNumbered theElementCall
-elements-numbered rules s l n b = (record { number = case-number rules s l n b (case rules s b); nothing = nothing _ }, element-consumes _)
+elements-numbered rules s l n b = (record { number = case-number rules s l n b (case rules s b); nothing = element-nothing _ }, element-consumes _)
 
 -- ---- encoders
 
 says-number : (r : Encoded) → Says r → IsNumbered encodeNumbers (ofEncoded r) × (ofEncoded r .place ≡ 0)
 unfolding ofEncoded isOneOf
-says-number r ten = (record { number = λ number place h. let q : 10 ≡ number = refusal-is h .0 in rw (← q) refl; nothing = nothing _ }, refl)
-says-number r four = (record { number = λ number place h. let q : 4 ≡ number = refusal-is h .0 in rw (← q) refl; nothing = nothing _ }, refl)
-says-number r nine = (record { number = λ number place h. let q : 9 ≡ number = refusal-is h .0 in rw (← q) refl; nothing = nothing _ }, refl)
-says-number r (done n) = (record { number = λ number place h. absurd (not-success (inr (number, place, h))); nothing = nothing _ }, refl)
+says-number r ten = (record { number = λ number place h. let q : 10 ≡ number = refusal-is h .0 in rw (← q) refl; nothing = encoded-nothing r }, refl)
+says-number r four = (record { number = λ number place h. let q : 4 ≡ number = refusal-is h .0 in rw (← q) refl; nothing = encoded-nothing r }, refl)
+says-number r nine = (record { number = λ number place h. let q : 9 ≡ number = refusal-is h .0 in rw (← q) refl; nothing = encoded-nothing r }, refl)
+says-number r (done n) = (record { number = λ number place h. absurd (not-success (inr (number, place, h))); nothing = encoded-nothing r }, refl)
 
 pub encodes-numbered : EncodesNumbered theEncoder
 encodes-numbered m k given out = says-number _ (encoder-says m k given out)

@@ -1,12 +1,13 @@
 -- Entry i of the two lists that a row was read into is element i, and later entries are as they were.
 use Prim.Native.Nat.{ℕ, zero, suc, _+_, _-_, _/_, _^_, _≤_, _<_}
-use mathlib.Core.Bool.{Bool, true, false, cond, _&&_}
+use mathlib.Core.Bool.{Bool, true, false, cond, _&&_, false≢true}
 use mathlib.Core.List.{List, [], _∷_, _++_, map}
 use mathlib.Core.Option.{Option, some, none}
 use mathlib.Core.Path.{_≡_, refl, ap, sym, _∙_}
 use native.Mathlib.Omega.{arith}
-use borrow.Author.Tests.{ltb-true, lt-ltb}
-use lib.Dec.{leb, ltb}
+use borrow.Author.Tests.{ltb-true, lt-ltb, eq-eqb}
+use denote.Enum.Declared.{tagOf as variantOf}
+use lib.Dec.{eqb, leb, ltb}
 use lib.IntN.{ℤ, pos, negsuc}
 use lib.ListN.{length, take, drop, length-map}
 use Rattle.protocol.specs.declared.Decoded.the-variants as D
@@ -31,6 +32,7 @@ use Rattle.protocol.specs.Rules.{rulesOf}
 use Rattle.protocol.proofs.Counts.{counted-is}
 use Rattle.protocol.proofs.Find.{All, find-all, tagOf}
 use Rattle.protocol.proofs.Framed.{framed-is}
+use Rattle.protocol.proofs.Message as Variants
 use Rattle.protocol.specs.Kinds.{the-table}
 use Rattle.element.specs.Lists.{listsOf}
 use Rattle.element.proofs.Calls.{answered-as}
@@ -178,10 +180,16 @@ module _ (rules : Rules) (f : List ℕ) where
       let same : s .0 ≡ dataOf r = cc in
       rw (← same) (row-by p q s (readCounted rules signedCount nullable f p) refl e)
 
-  -- no other kind's message is a row
+  -- no other kind's message is a row, since it is another variant
+  abbrev variant : Message → ℕ
+  variant m = variantOf Variants.the-type m
+
+  other-passes : (k : Kind) → ((s : Each Slot (k .body)) (r : DataRow) → eqb (variant (k .message s)) (variant (M.DataRow r)) ≡ false) → Passes k
+  other-passes k other p q s r e m = absurd (false≢true (sym (other s r) ∙ eq-eqb _ _ (ap variant m)))
+
   all-pass : All Passes (backend .kinds)
   unfolding the-table
-  all-pass = (λ p q s r e m. let z : _≡_ {A = ℕ} 0 1 = cc in absurd (omega arith), (λ p q s r e m. let z : _≡_ {A = ℕ} 0 1 = cc in absurd (omega arith), (λ p q s r e m. let z : _≡_ {A = ℕ} 0 1 = cc in absurd (omega arith), (λ p q s r e m. let z : _≡_ {A = ℕ} 0 1 = cc in absurd (omega arith), (λ p q s r e m. let z : _≡_ {A = ℕ} 0 1 = cc in absurd (omega arith), (λ p q s r e m. let z : _≡_ {A = ℕ} 0 1 = cc in absurd (omega arith), (λ p q s r e m. let z : _≡_ {A = ℕ} 0 1 = cc in absurd (omega arith), (λ p q s r e m. let z : _≡_ {A = ℕ} 0 1 = cc in absurd (omega arith), (λ p q s r e m. let z : _≡_ {A = ℕ} 0 1 = cc in absurd (omega arith), (row-passes, (λ p q s r e m. let z : _≡_ {A = ℕ} 0 1 = cc in absurd (omega arith), (λ p q s r e m. let z : _≡_ {A = ℕ} 0 1 = cc in absurd (omega arith), (λ p q s r e m. let z : _≡_ {A = ℕ} 0 1 = cc in absurd (omega arith), (λ p q s r e m. let z : _≡_ {A = ℕ} 0 1 = cc in absurd (omega arith), (λ p q s r e m. let z : _≡_ {A = ℕ} 0 1 = cc in absurd (omega arith), (λ p q s r e m. let z : _≡_ {A = ℕ} 0 1 = cc in absurd (omega arith), (λ p q s r e m. let z : _≡_ {A = ℕ} 0 1 = cc in absurd (omega arith), (λ p q s r e m. let z : _≡_ {A = ℕ} 0 1 = cc in absurd (omega arith), (λ p q s r e m. let z : _≡_ {A = ℕ} 0 1 = cc in absurd (omega arith), tt)))))))))))))))))))
+  all-pass = search (row-passes, other-passes, tt) depth 60 fits 5000
 
 abbrev fromBackend : Rules
 fromBackend = rulesOf 1

@@ -1,6 +1,6 @@
 -- What a step of the listing says: whole exactly where no byte is left, else what decoding says of the bytes from there on.
 use Prim.Native.Nat.{ℕ, _≤_, _<_}
-use mathlib.Core.Bool.{Bool, true, false, cond, false≢true}
+use mathlib.Core.Bool.{Bool, true, false, cond}
 use mathlib.Core.List.{List}
 use mathlib.Core.Logic.{_↔_, inl, inr}
 use mathlib.Core.Option.{Option, some, none}
@@ -20,18 +20,17 @@ use Rattle.protocol.specs.Stream.{whole, needMore, refused, frame, stop, stepBy
 use Rattle.listing.specs.Listing.{ofStep, stepOf}
 use Rattle.listing.specs.declared.Step.the-variants as S
 use Rattle.listing.specs.declared.Step.{Step}
-use Rattle.laws.specs.ListingStatements.{StepSays, Steps}
-use Rattle.laws.specs.Statements.{theDecoder}
-use Rattle.laws.proofs.Answered.{not-success, refusal-is}
+use Rattle.laws.specs.ListingStatements.{StepSays, Steps, StepsNumbered}
+use Rattle.laws.specs.Statements.{theDecoder, GivesNothing}
+use Rattle.laws.proofs.Answered.{not-success, refusal-is, needs-refusal}
 use Rattle.laws.proofs.Encoding.{yes, no}
+use Rattle.laws.proofs.Numbered.{success-nothing, needs-nothing, refusal-nothing, numbered}
+use Rattle.laws.proofs.Numbers.{bytes-drop}
 
 -- ---- answers that differ
 
 success-is : {X : Type 0} {x y : X} {n m : ℕ} → success x n ≡ success y m → (some x ≡ some y) × (n ≡ m)
 success-is {X} e = (ap (λ (a : Answer X). a .value) e, ap (λ (a : Answer X). a .consumed) e)
-
-needs-refusal : {X : Type 0} {number place : ℕ} → needsMore {X = X} ≡ refusal number place → ⊥
-needs-refusal {X} e = false≢true (sym (ap (λ (a : Answer X). a .needMore) e))
 
 none-some : {X : Type 0} {x : X} {n m : ℕ} → success {X = Option X} none n ≡ success (some x) m → ⊥
 none-some e = let v = success-is e .0 in let z : _≡_ {A = ℕ} 0 1 = cc in omega arith
@@ -107,3 +106,20 @@ module _ (rules : Rules) (s : List ℕ) (p : ℕ) (step : Step) where
 pub steps : Steps theDecoder
 unfolding stepAt
 steps rules s p step h = by-room rules s p step (leb (length s) p) refl (is-streamed p step ∙ ap (streamed p) h)
+
+-- ---- the number of a step that is refused
+
+step-nothing : (p : ℕ) (step : Step) → GivesNothing (ofStep p step)
+unfolding ofStep
+step-nothing p (S.Frame m n) = success-nothing
+step-nothing p S.Whole = success-nothing
+step-nothing p S.NeedMore = needs-nothing
+step-nothing p (S.Refused number) = refusal-nothing number p
+
+pub steps-numbered : StepsNumbered
+steps-numbered rules s p step b e = record {
+  number = λ number place h.
+      let w = steps rules s p step e .refused number place .0 h .2 in
+      numbered rules (drop p s) (bytes-drop p s b) .number number (w .0) (w .1);
+  nothing = step-nothing p step;
+}

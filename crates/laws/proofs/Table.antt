@@ -1,23 +1,20 @@
--- The table of kinds: held against the lines of docs/FORMAT.md 4, and against its own shape. A test over all rows is computed, and a law carries it to each.
+-- The table of kinds, held against its own shape. A test over all rows is computed, and a law carries it to each.
 use Prim.Native.Nat.{ℕ}
 use mathlib.Core.Bool.{Bool, true, false, cond, not, _&&_}
 use mathlib.Core.List.{List, [], _∷_}
 use mathlib.Core.Logic.{inl, inr, _↔_}
-use mathlib.Core.Option.{Option, some, none}
+use mathlib.Core.Option.{some}
 use mathlib.Core.Path.{_≡_, refl, ap, sym, _∙_}
 use native.Mathlib.Omega.{arith}
 use borrow.Author.Tests.{eqb-true, eq-eqb, ne-eqb}
 use lib.Dec.{T, eqb, eqb→eq}
 use Rattle.protocol.specs.declared.Rules.{Rules}
-use Rattle.protocol.specs.declared.Span.{Span}
 use Rattle.protocol.specs.Each.{leastOfEach}
 use Rattle.protocol.specs.Fields.{least}
-use Rattle.protocol.specs.Kinds.{Envelope, Kind, Mode, modes, IsIn, find, modeOf, kindIn, nullable, valueElement}
+use Rattle.protocol.specs.Kinds.{Envelope, Kind, Mode, modes, IsIn, find, modeOf, kindIn}
 use Rattle.protocol.specs.WellFormed.{lengthOf}
 use Rattle.protocol.proofs.Find.{every, numberOf, tagOf}
 use Rattle.protocol.specs.Kinds.{the-table}
-use Rattle.laws.specs.FieldNames.{orNull, _∶_, elementFields}
-use Rattle.laws.specs.Document.{RecordNamed, ItemNamed, ItemsNamed}
 use Rattle.laws.specs.Statements.{Table}
 
 pub and-left : (a b : Bool) → T (a && b) → T a
@@ -125,31 +122,5 @@ tags-apart m i k h j l e =
     let q = kind-found m i (h .tag) h .1 (l, refl) in
     cc
 
--- ---- the names of what a record and its elements hold
-
--- a value, or NULL
-value-by : (v : Option Span) → elementFields (valueElement v) ≡ "value" ∶ orNull v ∷ []
-unfolding valueElement
-value-by none = refl
-value-by (some v) = refl
-
-value-named : ItemNamed nullable
-unfolding valueElement
-value-named v = value-by (v .0)
-
-abbrev Holding : Kind → Type 0
-Holding k = RecordNamed k × ItemsNamed (k .body)
-
-all-hold : All (λ (m : Mode). All Holding (m .kinds)) modes
-unfolding the-table valueElement
-all-hold = search (value-named, tt) depth 60 fits 5000
-
 pub table : Table modes
-unfolding the-table valueElement
-table = record {
-  lines = refl;
-  records = λ m i k j. in-all Holding (m .kinds) (in-all (λ (m : Mode). All Holding (m .kinds)) modes all-hold m i) k j;
-  answers = (refl, refl);
-  smallest = smallest-is;
-  apart = tags-apart;
-}
+table = record { smallest = smallest-is; apart = tags-apart }

@@ -3,7 +3,6 @@
 use Prim.Native.Nat.{ℕ}
 use mathlib.Core.Bool.{false}
 use mathlib.Core.List.{List, [], _∷_, _++_}
-use mathlib.Core.Logic.{_⊎_}
 use mathlib.Core.Option.{Option, some, none}
 use mathlib.Core.Path.{_≡_}
 use lib.ListN.{take}
@@ -11,9 +10,9 @@ use Rattle.protocol.specs.declared.Rules.{Rules}
 use Rattle.protocol.specs.Answers.{success, needsMore, refusal, Unsuccessful, ofDecoded, ofElement}
 use Rattle.protocol.specs.Bytes.{Bytes}
 use Rattle.protocol.specs.Elements.{valueOr}
-use Rattle.protocol.specs.Kinds.{Kind, Mode, bind, dataRow, nullable}
+use Rattle.protocol.specs.Kinds.{Kind, Mode, nullable}
 use Rattle.protocol.specs.WellFormed.{Contents, WellFormed, bodyStart, frame}
-use Rattle.laws.specs.Items.{found, Answers}
+use Rattle.laws.specs.Items.{found, listItem, Answers}
 use Rattle.laws.specs.Statements.{Decoder, ElementCall, IsNumbered, decodeNumbers}
 
 -- 1. Elements. Of a well-formed frame, followed by any bytes, element n of list l is item n of that list of the content, positions and all, and the
@@ -66,10 +65,10 @@ StandIns call =
     → found (k .body) (bodyStart (m .envelope)) c l n ≡ some (record { item = nullable; place = place; content = (own, tt) })
     → valueOr (frame (m .envelope) k c ++ t) stand (call rules (frame (m .envelope) k c ++ t) l n) ≡ ownOr stand own
 
--- 8. It hands back the empty start of the stand-in where the first form refuses or says need-more; and of every frame that is accepted where kind and
--- list are others than Bind's list 1 and DataRow's list 0.
+-- 8. It hands back the empty start of the stand-in where the first form refuses or says need-more; and of every frame that is accepted where the list is
+-- none of values. Crate by_kind says which kinds' lists are: Bind's list 1 and DataRow's list 0.
 abbrev pub HasValues : Kind → ℕ → Type 0
-HasValues k l = ((k ≡ bind) × (l ≡ 1)) ⊎ ((k ≡ dataRow) × (l ≡ 0))
+HasValues k l = listItem (k .body) l ≡ some nullable
 
 pub record EmptyStarts (call : ElementCall) : Type 0 where
   pub refused :

@@ -1,6 +1,6 @@
 -- What is proved of encoding: a page to read by itself. An encoder of the kind k in the mode m is a function of the content that its arguments are,
 -- if they are one, and of the output before; it gives its answer and the output after. The theorems hold of `theEncoder`, which is what every
--- encoder's contract says. ByName.antt says the round trip kind by kind, by the names of the arguments.
+-- encoder's contract says. Crate by_kind (ByName.antt) says the round trip kind by kind, by the names of the arguments.
 use Prim.Native.Nat.{ℕ, _≤_}
 use mathlib.Core.Bool.{true}
 use mathlib.Core.List.{List, [], _∷_, _++_}

@@ -32,6 +32,15 @@ found (counted k i ∷ xs) p c (suc l) n = found xs (p + length (bytes (counted 
 found (ended i ∷ xs) p c zero n = itemFrom i p (c .0) n
 found (ended i ∷ xs) p c (suc l) n = found xs (p + length (bytes (ended i) (c .0))) (c .1) l n
 
+-- what list l of a body is a list of
+unfoldable pub listItem : List Field → ℕ → Option Item
+listItem [] l = none
+listItem (one a ∷ xs) l = listItem xs l
+listItem (counted k i ∷ xs) zero = some i
+listItem (counted k i ∷ xs) (suc l) = listItem xs l
+listItem (ended i ∷ xs) zero = some i
+listItem (ended i ∷ xs) (suc l) = listItem xs l
+
 -- each atom of an item is where its slot says
 unfoldable pub AtomsPlaced : List ℕ → (xs : List Atom) → Each AtomSlot xs → Each AtomContent xs → Type 0
 AtomsPlaced s [] v c = Unit {0}

@@ -1,5 +1,3 @@
-pub mod FieldNames
-pub mod Document
 pub mod Waiting
 pub mod Places
 pub mod Faults
@@ -9,10 +7,8 @@ pub mod Items
 pub mod ElementStatements
 pub mod Arguments
 pub mod EncodeStatements
-pub mod ByName
 pub mod ReaderStatements
 pub mod ListingStatements
 pub mod Lent
 pub mod Shortcuts
 pub mod Rejected
-pub mod Tight

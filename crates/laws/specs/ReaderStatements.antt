@@ -1,7 +1,7 @@
 -- What is proved of reading a frame field after field, as a host does with a frame reader. A reader's answers are functions of the frame's bytes and of a
 -- place; the theorem holds of `theReader`, to which the reader's functions are proved equal.
 use Prim.Native.Nat.{ℕ, _+_, _≤_, _<_}
-use mathlib.Core.List.{List, [], _∷_}
+use mathlib.Core.List.{List, [], _∷_, _++_}
 use mathlib.Core.Logic.{_⊎_}
 use mathlib.Core.Option.{Option, some}
 use mathlib.Core.Path.{_≡_}
@@ -16,7 +16,7 @@ use Rattle.protocol.specs.declared.Rules.{Rules}
 use Rattle.protocol.specs.declared.Span.{Span}
 use Rattle.protocol.specs.declared.data.DataRow.{DataRow}
 use Rattle.protocol.specs.Answers.{Answer, success, needsMore, refusal, ofDecoded, ofElement}
-use Rattle.protocol.specs.Bytes.{bitsOf}
+use Rattle.protocol.specs.Bytes.{Bytes, bitsOf}
 use Rattle.protocol.specs.Each.{Each}
 use Rattle.protocol.specs.Fields.{Atom, unsigned, signed, oneOf, text, value, rest, AtomContent, atomBytes, valueSlot, atomSlot, Item, ItemContent, itemBytes, Field, one, counted, ended, Content, itemsBytes, bytes}
 use Rattle.protocol.specs.Kinds.{Kind, Mode}
@@ -28,7 +28,7 @@ use Rattle.reader.specs.declared.row.Row.{Row}
 use Rattle.reader.specs.Row.{ofRow, ReadsRow}
 use Rattle.laws.specs.Arguments.{nth}
 use Rattle.laws.specs.Places.{AtomPlaced}
-use Rattle.laws.specs.Statements.{Decoder, ElementCall}
+use Rattle.laws.specs.Statements.{Decoder, ElementCall, IsNumbered, decodeNumbers}
 
 -- a number of 1, 2 or 4 bytes, a string and a value, each at a place of a frame
 pub record Reader : Type 0 where
@@ -95,6 +95,15 @@ abbrev pub RowAnswers : Decoder → Type 0
 RowAnswers decode =
     (s starts₀ starts₁ : List ℕ) (lengths₀ lengths₁ : List ℤ) (r : Row) → ReadsRow s starts₀ lengths₀ r starts₁ lengths₁
     → RowAnswered decode s starts₀ lengths₀ (ofRow r)
+
+-- A refusal has a number from 1 to 8, or 9 or 11; and a refusal or need-more consumes 0 and gives no row.
+abbrev pub rowNumbers : List ℕ
+rowNumbers = decodeNumbers ++ 9 ∷ 11 ∷ []
+
+abbrev pub RowNumbered : Type 0
+RowNumbered =
+    (s starts₀ starts₁ : List ℕ) (lengths₀ lengths₁ : List ℤ) (r : Row) → Bytes s → ReadsRow s starts₀ lengths₀ r starts₁ lengths₁
+    → IsNumbered rowNumbers (ofRow r)
 
 -- the element that an entry tells
 abbrev pub elementAs : ℕ → ℤ → Element

@@ -3,7 +3,7 @@
 -- protocol's Answers sets it out: success with a record and the bytes consumed, needsMore, or a refusal with its number and place.
 use Prim.Native.Nat.{ℕ, _+_, _≤_}
 use mathlib.Core.Bool.{true, false}
-use mathlib.Core.List.{List, [], _∷_, _++_, map}
+use mathlib.Core.List.{List, [], _∷_, _++_}
 use mathlib.Core.Logic.{_⊎_, _↔_}
 use mathlib.Core.Option.{none}
 use mathlib.Core.Path.{_≡_}
@@ -12,16 +12,15 @@ use Rattle.protocol.specs.declared.Decoded.{Decoded}
 use Rattle.protocol.specs.declared.Element.{Element}
 use Rattle.protocol.specs.declared.Message.{Message}
 use Rattle.protocol.specs.declared.Rules.{Rules}
-use Rattle.protocol.specs.Answers.{Answer, success, needsMore, refusal, Unsuccessful, ofDecoded}
+use Rattle.protocol.specs.Answers.{Answer, success, needsMore, refusal, ofDecoded}
 use Rattle.protocol.specs.Bytes.{Bytes, isOneOf}
 use Rattle.protocol.specs.Decode.{decodeOf}
 use Rattle.protocol.specs.Each.{Each, leastOfEach}
 use Rattle.protocol.specs.Elements.{elementOf}
 use Rattle.protocol.specs.Fields.{Slot, least}
-use Rattle.protocol.specs.Kinds.{Kind, Mode, modes, tlsAnswer, gssAnswer, IsIn}
+use Rattle.protocol.specs.Kinds.{Kind, Mode, modes, IsIn}
 use Rattle.protocol.specs.Refusals.{modeUnknown}
 use Rattle.protocol.specs.WellFormed.{Contents, WellFormed, bodyStart, lengthOf, frame, recordOf}
-use Rattle.laws.specs.Document.{document, lines, RecordNamed, ItemsNamed, bytesOf, tlsBytes, gssBytes}
 use Rattle.laws.specs.Edges.{edges, Answered}
 use Rattle.laws.specs.Faults.{BodyFault, HeaderFault, FrameEnds}
 use Rattle.laws.specs.Places.{FieldsPlaced}
@@ -125,10 +124,13 @@ OneFault =
     (rules : Rules) (s : List ℕ) (number place number′ place′ : ℕ) → FaultOf rules s number place → FaultOf rules s number′ place′
     → (number ≡ number′) × (place ≡ place′)
 
--- 9. Numbered. A refusal has a number from 1 to 8; and a refusal or need-more consumes 0 and gives no record.
+-- 9. Numbered. A refusal has a number from 1 to 8; and a refusal or need-more, told by the answer's own marks, consumes 0 and gives no record.
+abbrev pub GivesNothing : {X : Type 0} → Answer X → Type 0
+GivesNothing a = (a .needMore ≡ true) ⊎ (1 ≤ a .number) → (a .consumed ≡ 0) × (a .value ≡ none)
+
 pub record IsNumbered {X : Type 0} (numbers : List ℕ) (a : Answer X) : Type 0 where
   pub number : (number place : ℕ) → a ≡ refusal number place → isOneOf number numbers ≡ true
-  pub nothing : Unsuccessful a → (a .consumed ≡ 0) × (a .value ≡ none)
+  pub nothing : GivesNothing a
 
 abbrev pub decodeNumbers : List ℕ
 decodeNumbers = 1 ∷ 2 ∷ 3 ∷ 4 ∷ 5 ∷ 6 ∷ 7 ∷ 8 ∷ []
@@ -142,11 +144,8 @@ OneDecoder decode =
     (other : Decoder) → Complete other → NeedMore other → Refusals other
     → (rules : Rules) (s : List ℕ) → Bytes s → ofDecoded (other rules s) ≡ ofDecoded (decode rules s)
 
--- 11. Table. The table of kinds has FORMAT.md's lines, with its bodies; a record holds what was read of each field under the line's name for it, and so
--- does an element; each kind's smallest length is what its fields need at least; and no two kinds of a mode share what tells them.
+-- 11. Table. Each kind's smallest length is what its fields need at least, and no two kinds of a mode share what tells them. That the table has FORMAT.md's
+-- lines is said in crate by_kind.
 pub record Table (table : List Mode) : Type 0 where
-  pub lines : map lines table ≡ document
-  pub records : (m : Mode) → IsIn m table → (k : Kind) → IsIn k (m .kinds) → RecordNamed k × ItemsNamed (k .body)
-  pub answers : (bytesOf tlsAnswer ≡ tlsBytes) × (bytesOf gssAnswer ≡ gssBytes)
   pub smallest : (m : Mode) → IsIn m table → (k : Kind) → IsIn k (m .kinds) → k .smallest ≡ lengthOf (m .envelope) (leastOfEach least (k .body))
   pub apart : (m : Mode) → IsIn m table → (k h : Kind) → IsIn k (m .kinds) → IsIn h (m .kinds) → k .tag ≡ h .tag → k ≡ h

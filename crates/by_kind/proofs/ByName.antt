@@ -1,23 +1,20 @@
 -- What an encoder wrote comes back under the names of its arguments. One law carries the round trip of a content to whatever is to be named, one carries it
 -- to a list, and then each kind says which field of its content has which name.
-use Prim.Native.Nat.{ℕ, zero, suc, _+_, _≤_}
+use Prim.Native.Nat.{ℕ, zero, suc, _+_}
 use mathlib.Core.List.{List, [], _∷_, _++_}
 use mathlib.Core.Option.{Option, some, none, Option·map}
-use mathlib.Core.Path.{_≡_, refl, ap, sym, _∙_, subst}
+use mathlib.Core.Path.{_≡_, refl, _∙_, subst}
 use native.Mathlib.Omega.{arith}
 use lib.IntN.{ℤ}
-use lib.ListN.{length, take, drop, length-map}
-use Rattle.protocol.specs.declared.Element.the-variants as E
+use lib.ListN.{length, take, length-map}
 use Rattle.protocol.specs.declared.Element.{Element}
 use Rattle.protocol.specs.declared.List.{List as ListSlot}
 use Rattle.protocol.specs.declared.Message.the-variants as M
-use Rattle.protocol.specs.declared.Rules.{Rules}
 use Rattle.protocol.specs.declared.data.FieldDescription.{FieldDescription}
 use Rattle.protocol.specs.declared.response.GssEncResponse.the-variants as Gss
 use Rattle.protocol.specs.declared.response.GssEncResponse.{GssEncResponse}
 use Rattle.protocol.specs.declared.response.SslResponse.the-variants as Ssl
 use Rattle.protocol.specs.declared.response.SslResponse.{SslResponse}
-use Rattle.protocol.specs.Answers.{success, ofElement}
 use Rattle.protocol.specs.Each.{HoldsEach, slotsOfEach}
 use Rattle.protocol.specs.Encode.{items, valuesGiven, errorFieldsGiven, rowFieldsGiven, sslKind, gssKind}
 use Rattle.protocol.specs.Fields.{AtomInRange, atomSlot, valueSlot, Item, ItemContent, itemBytes, itemSlots, InRange, bytes, slot}
@@ -26,15 +23,15 @@ use Rattle.protocol.specs.Kinds.{Kind, oid, format, nullable, rowField, errorFi
 use Rattle.protocol.specs.WellFormed.{Contents, AllInRange, bodyStart, recordOf}
 use Rattle.protocol.specs.Kinds.{the-table}
 use Rattle.encode.specs.Given as G
-use Rattle.laws.specs.Arguments.{nth, sizeOf, itself, total, valueAt}
-use Rattle.laws.specs.ByName.{Back, ListIs, Oids, Formats, ValueIs, Values, FieldIs, RowFields, ErrorFields, theCodec, ComesBack, Bare, ByName}
+use Rattle.laws.specs.Arguments.{nth}
+use Rattle.by_kind.specs.ByName.{Back, ListIs, Oids, Formats, ValueIs, Values, RowFields, ErrorFields, theCodec, ComesBack, Bare, ByName}
 use Rattle.laws.specs.EncodeStatements.{theEncoder}
 use Rattle.laws.specs.Items.{itemFrom, found, AtomsPlaced, IsItem, Answers}
 use Rattle.laws.specs.Places.{AtomPlaced, ValuePlaced, FieldPlaced, FieldsPlaced}
-use Rattle.laws.specs.Statements.{theDecoder, theElementCall}
+use Rattle.laws.specs.Statements.{theElementCall}
 use Rattle.laws.proofs.Arguments.{in-range, values, error-fields, row-fields, number-items}
 use Rattle.laws.proofs.Elements.{no-item}
 use Rattle.laws.proofs.Encoding.{exactly, round-trip}
 
 -- ---- a content comes back
 

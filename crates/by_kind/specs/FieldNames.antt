@@ -10,7 +10,6 @@ use Rattle.protocol.specs.declared.List.{List as ListSlot}
 use Rattle.protocol.specs.declared.Message.the-variants as M
 use Rattle.protocol.specs.declared.Message.{Message}
 use Rattle.protocol.specs.declared.Span.{Span}
-use Rattle.protocol.specs.declared.data.FieldDescription.{FieldDescription}
 
 infix 80 _∶_
 -- a number, a signed number, the part that a string or a rest is, that of a value or NULL, a list

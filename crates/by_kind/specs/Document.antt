@@ -16,9 +16,8 @@ use Rattle.protocol.specs.declared.response.SslResponse.the-variants as Ssl
 use Rattle.protocol.specs.Each.{Each}
 use Rattle.protocol.specs.Fields as F
 use Rattle.protocol.specs.Fields.{Atom, AtomSlot, Item, signedCount, Field, Slot}
-use Rattle.protocol.specs.Kinds.{Envelope, typed, untyped, bare, Kind, Mode}
-use Rattle.protocol.specs.Names.{nameOf}
-use Rattle.laws.specs.FieldNames.{Holds, number, integer, part, orNull, list, Named, fieldsOf, elementFields}
+use Rattle.protocol.specs.Kinds.{Envelope, typed, untyped, bare, Kind, Mode, tlsAnswer, gssAnswer, IsIn}
+use Rattle.by_kind.specs.FieldNames.{Holds, number, integer, part, orNull, list, Named, fieldsOf, elementFields}
 
 infix 80 _∶_
 -- ---- the words of the tables
@@ -77,7 +76,7 @@ formats name = n name ("format" ∶ i 16 ∷ [])
 abbrev errors : Column
 errors = untilZero "fields" ("code" ∶ u 8 ∷ "string" ∶ string ∷ [])
 
-abbrev frontend : List Line
+abbrev pub frontend : List Line
 frontend =
     line "Parse" "P" 8 L (one ("name" ∶ string) ∷ one ("query" ∶ string) ∷ n "type_oids" ("oid" ∶ u 32 ∷ []) ∷ [])
     ∷ line "Bind" "B" 12 L
@@ -97,7 +96,7 @@ frontend =
     ∷ line "CopyFail" "f" 5 house (one ("message" ∶ string) ∷ [])
     ∷ []
 
-abbrev backend : List Line
+abbrev pub backend : List Line
 backend =
     line "ParseComplete" "1" 4 house []
     ∷ line "BindComplete" "2" 4 house []
@@ -186,10 +185,10 @@ blanks (x ∷ xs) = record { 0 = blank x; 1 = blanks xs }
 abbrev pub namesOf : List Named → List String
 namesOf xs = map (λ (x : Named). x .name) xs
 
--- a name for each; a body with more or fewer fields than its record has names is no line of the document
+-- a name for each; what the record has no name for is still there, under no name, so that nothing that stands on the wire is left out
 abbrev things : List Atom → List String → List Thing
 things [] names = []
-things (a ∷ xs) [] = []
+things (a ∷ xs) [] = "" ∶ wireOf a ∷ things xs []
 things (a ∷ xs) (name ∷ names) = name ∶ wireOf a ∷ things xs names
 
 abbrev pub itemNames : Item → List String
@@ -202,15 +201,15 @@ column (F.ended item) name = untilZero name (things (item .atoms) (itemNames ite
 
 abbrev columns : List Field → List String → List Column
 columns [] names = []
-columns (x ∷ xs) [] = []
+columns (x ∷ xs) [] = column x "" ∷ columns xs []
 columns (x ∷ xs) (name ∷ names) = column x name ∷ columns xs names
 
 abbrev pub recordNames : Kind → List String
 recordNames k = namesOf (fieldsOf (k .message (blanks (k .body))))
 
-abbrev lineOf : Kind → Line
+abbrev pub lineOf : Kind → Line
 lineOf k = record {
-  name = nameOf (k .message (blanks (k .body)));
+  name = k .name;
   tag = k .tag;
   smallest = k .smallest;
   limit = k .limit;
@@ -235,10 +234,10 @@ held (F.one a) v = heldAtom a v
 held (F.counted k item) v = list v
 held (F.ended item) v = list v
 
--- each of some, under the names in their order
+-- each of some, under the names in their order; under no name where these run out
 abbrev under : {X : Type 0} {S : X → Type 0} → ((x : X) → S x → Holds) → (xs : List X) → Each S xs → List String → List Named
 under hold [] v names = []
-under hold (x ∷ xs) v [] = []
+under hold (x ∷ xs) v [] = record { name = ""; holds = hold x (v .0) } ∷ under hold xs (v .1) []
 under hold (x ∷ xs) v (name ∷ names) = record { name = name; holds = hold x (v .0) } ∷ under hold xs (v .1) names
 
 abbrev pub RecordNamed : Kind → Type 0
@@ -268,3 +267,12 @@ tlsBytes = record { byte = code "S"; is = M.SslResponse Ssl.Accept } ∷ record 
 
 abbrev pub gssBytes : List Byte
 gssBytes = record { byte = code "G"; is = M.GssEncResponse Gss.Accept } ∷ record { byte = code "N"; is = M.GssEncResponse Gss.Refuse } ∷ []
+
+-- ---- the statement
+
+-- The table of kinds has the document's lines, with its bodies; a record holds what was read of each field under the line's name for it, and so does
+-- an element of each of its lists; and each answer byte of modes 3 and 4 is the answer that the document says.
+pub record TableIsDocument (table : List Mode) : Type 0 where
+  pub lines : map lines table ≡ document
+  pub records : (m : Mode) → IsIn m table → (k : Kind) → IsIn k (m .kinds) → RecordNamed k × ItemsNamed (k .body)
+  pub answers : (bytesOf tlsAnswer ≡ tlsBytes) × (bytesOf gssAnswer ≡ gssBytes)

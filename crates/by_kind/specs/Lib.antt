@@ -1,0 +1,4 @@
+pub mod FieldNames
+pub mod Document
+pub mod Values
+pub mod ByName
