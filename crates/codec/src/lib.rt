@@ -1,6 +1,6 @@
 // The cursor over one frame, as codec.rs reads a buffer: it goes in by value and comes back advanced, or the answer is a fault.
 // The frame ends where the lent slice ends, so nothing past it can be read.
-// Its functions are inner: for crates of this library alone (docs/CONTRACTS.md, "Inner functions"). The answers' types are a frame reader's too.
+// Its functions are inner: for crates of this library alone (docs/INNER.md). The answers' types are a frame reader's too.
 ghost use Prim.Native.Nat.{_+_, _*_, _/_, _%_, _≤_, _<_};
 ghost use mathlib.Core.Path.{_≡_};
 ghost use lib.ListN.{getD, length};

@@ -1,6 +1,6 @@
 // The smallest length and the limit of each kind, laid out as in docs/FORMAT.md 4. No other code writes a limit: it takes these names, and a contract
 // those of specs/Kinds.
-// Inner: for crates of this library alone (docs/CONTRACTS.md, "Inner functions").
+// Inner: for crates of this library alone (docs/INNER.md).
 ghost use mathlib.Core.Path.{_≡_};
 ghost use Rattle.protocol.specs.Kinds.{backend, boundsBy, boundsOf, cancel, frontend, gssAnswer, kindIn, tlsAnswer};
 use crate::Rules;

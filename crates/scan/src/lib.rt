@@ -1,6 +1,6 @@
 // The scan for a zero byte. Whole blocks are looked at before single bytes, since the compiler makes vector compares of a loop with no
 // early exit; what is found is what the plain scan finds.
-// Inner: for crates of this library alone (docs/CONTRACTS.md, "Inner functions").
+// Inner: for crates of this library alone (docs/INNER.md).
 ghost use Prim.Native.Nat.{_+_, _≤_, _<_};
 ghost use mathlib.Core.Bool.{true};
 ghost use mathlib.Core.Path.{_≡_};
