@@ -86,11 +86,11 @@ CountFault k i g number =
     × (((n : ℕ) × (countOf k (numberAt 2 g 0) ≡ negsuc n))
     ⊎ ((n : ℕ) × (countOf k (numberAt 2 g 0) ≡ pos n) × (length (drop 2 g) < n * itemLeast i))))
 
--- so many of the smallest items fit into g
+-- n of the smallest items fit into g
 abbrev pub Fit : Item → ℕ → List ℕ → Type 0
 Fit i n g = n * itemLeast i ≤ length g
 
--- a right count: it is there and not negative, and so many of the smallest items fit into what is left after it
+-- a right count: it is there and not negative, and that many of the smallest items fit into what is left after it
 pub record RightCount (k : Count) (i : Item) (g : List ℕ) (n : ℕ) : Type 0 where
   pub there : 2 ≤ length g
   pub is : countOf k (numberAt 2 g 0) ≡ pos n

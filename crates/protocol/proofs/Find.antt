@@ -84,7 +84,7 @@ pub no-arm : (m : Mode) (t : ℕ) → Apart t (keysOnto tagOf (m .kinds) []) →
 unfolding boundsBy
 no-arm m t h = sym (ap boundsBy (kind-apart m t h))
 
--- the same for a byte that is one of some
+-- an arm of a `match` on a byte that is one of some, and the last arm
 pub one-of : (bs : List ℕ) {t n : ℕ} → t ≡ n → isOneOf n bs ≡ isOneOf t bs
 one-of bs e = ap (λ (t : ℕ). isOneOf t bs) (sym e)
 

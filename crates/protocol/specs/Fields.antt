@@ -19,8 +19,8 @@ use Rattle.protocol.specs.Each.{Each, bytesOfEach, slotsOfEach, ableEach
 -- ---- atoms
 
 pub data Atom : Type 0 where
-  unsigned : ℕ → Atom  -- a number of so many bytes
-  signed : ℕ → Atom  -- the same, in two's complement
+  unsigned : ℕ → Atom  -- a number of that many bytes
+  signed : ℕ → Atom  -- a signed number of that many bytes, in two's complement
   oneOf : List ℕ → Atom  -- a byte that is one of these
   text : Atom  -- a string: bytes up to its zero byte
   value : Atom  -- a signed 32-bit length and that many bytes; -1 is NULL and has none
@@ -159,7 +159,7 @@ most signedCount = 32767
 
 pub data Field : Type 0 where
   one : Atom → Field  -- an atom
-  counted : Count → Item → Field  -- a count, and so many items
+  counted : Count → Item → Field  -- a count, and that many items
   ended : Item → Field  -- items, and a zero byte in place of a further one
 
 abbrev pub Content : Field → Type 0

@@ -84,7 +84,7 @@ unfoldable pub passItems : Rules → Item → ℕ → List ℕ → ℕ → Read 
 passItems rules i zero f p = got tt p
 passItems rules i (suc n) f p = andThen (readItem rules i f p) (λ s q. passItems rules i n f q)
 
--- a count is refused when negative, or when so many of the smallest elements exceed the bytes left after it
+-- a count is refused when negative, or when that many of the smallest elements exceed the bytes left after it
 unfoldable pub countAt : ℕ → ℤ → List ℕ → ℕ → ℕ → Read ListSlot
 countAt least (pos n) f p q = cond (leb (n * least) (length f - q)) (got (record { start = q; count = n }) q) (bad badCount p)
 countAt least (negsuc n) f p q = bad badCount p

@@ -52,7 +52,7 @@ allOut (f ∷ fs) run out c = allOut fs run (stepOut c f run out) (stepPen c f r
 abbrev pub blank : Pen
 blank = record { at = 0; ok = true; writing = false }
 
--- the answer to what was measured of so many fields; six bytes of the length come before the fields
+-- the answer to what was measured of `count` fields; six bytes of the length come before the fields
 abbrev pub answered : Pen → ℕ → ℕ → Encoded
 answered c count room = verdictOf (leb count 32767 && c .ok) large (min (c .at + 6) 18446744073709551615) 1 room
 
