@@ -129,7 +129,7 @@ impl<'a> Frame<'a> {
         })
     }
 
-    /// A count, and so many elements of at least `smallest` bytes.
+    /// A count, and that many elements of at least `smallest` bytes.
     fn list(&mut self, part: Part, smallest: usize) -> Read<Slot> {
         let from = self.at;
         let n = self.number(2)?;
