@@ -88,8 +88,8 @@ abbrev pub Edges : Decoder → ElementCall → Type 0
 Edges decode call = Answered decode call edges
 
 -- 7. Refusals. Decoding refuses with a number and a place exactly where the fault of that number stands at that place. Of 5 to 8: the frame is there,
--- from its body's start to the place stand right contents, and at the place the fault that FORMAT.md's table names. Of 2 to 4: of the header. Of 1: no
--- mode has the number.
+-- from its body's start to the place stand right contents, and at the place the fault that FORMAT.md's table names. Of 2 to 4: of the header. Of 1:
+-- no mode has the number.
 pub record Faulty (rules : Rules) (s : List ℕ) (number place : ℕ) : Type 0 where
   pub mode : Mode
   pub known : IsIn mode modes
@@ -142,8 +142,8 @@ OneDecoder decode =
     (other : Decoder) → Complete other → NeedMore other → Refusals other
     → (rules : Rules) (s : List ℕ) → Bytes s → ofDecoded (other rules s) ≡ ofDecoded (decode rules s)
 
--- 11. Table. The table of kinds has FORMAT.md's lines, with its bodies; a record holds what was read of each field under the line's name for it, and so
--- does an element; each kind's smallest length is what its fields need at least; and no two kinds of a mode share what tells them.
+-- 11. Table. The table of kinds has FORMAT.md's lines, with its bodies; a record holds what was read of each field under the line's name for it, and
+-- so does an element; each kind's smallest length is what its fields need at least; and no two kinds of a mode share what tells them.
 pub record Table (table : List Mode) : Type 0 where
   pub lines : map lines table ≡ document
   pub records : (m : Mode) → IsIn m table → (k : Kind) → IsIn k (m .kinds) → RecordNamed k × ItemsNamed (k .body)

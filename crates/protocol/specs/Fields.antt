@@ -1,6 +1,7 @@
 -- The sorts of field (docs/FORMAT.md 1). A body is a list of fields from left to right. A field is an atom, one thing on the wire, or a list of
 -- items, each of which is a list of atoms. For each sort: what it means (content), that a content is in its
--- type's range (InRange) and can be written (able), its bytes, what a record holds of it (slot, docs/FORMAT.md 7), and how many bytes it needs at least.
+-- type's range (InRange) and can be written (able), its bytes, what a record holds of it (slot, docs/FORMAT.md 7), and how many bytes it needs at
+-- least.
 use Prim.Native.Nat.{ℕ, _+_, _/_, _<_, _^_}
 use mathlib.Core.Bool.{Bool, true, false, not, _&&_}
 use mathlib.Core.List.{List, [], _∷_, _++_}
