@@ -377,7 +377,9 @@ static void encoding(void) {
     WRITES(tusweram_encode(29, 1, 0, 0, NONE, NONE, out, out_len), "N");
     WRITES(tusweram_encode(30, 0, 0, 0, NONE, NONE, out, out_len), "G");
     WRITES(tusweram_encode(30, 1, 0, 0, NONE, NONE, out, out_len), "N");
-    size_t others[] = {0, 1, 2, 17, 18, 19, 22, 23, 24, 25, 26, 31, 256 + 7, SIZE_MAX};
+    size_t others[] = {/* kinds with a list */ TUSWERAM_PARSE, TUSWERAM_BIND, TUSWERAM_ROW_DESCRIPTION, TUSWERAM_PARAMETER_DESCRIPTION,
+                       TUSWERAM_DATA_ROW, TUSWERAM_ERROR_RESPONSE, TUSWERAM_NOTICE_RESPONSE, TUSWERAM_COPY_IN_RESPONSE,
+                       TUSWERAM_COPY_OUT_RESPONSE, TUSWERAM_COPY_BOTH_RESPONSE, /* and none */ 0, 31, 256 + TUSWERAM_SYNC, SIZE_MAX};
     for (size_t i = 0; i < sizeof others / sizeof *others; i++)
         REFUSES(2, tusweram_encode(others[i], 'S', 0, 0, NONE, NONE, out, out_len));
     REFUSES(2, tusweram_encode(29, 2, 0, 0, NONE, NONE, out, out_len));
@@ -416,7 +418,9 @@ static void encoding_lists(void) {
     WRITES(lists(24, 1, NONE, NONE, NONE, out, out_len, NONE, NONE, formats, 2, NONE), "G\0\0\0\x0b\x01\0\x02\0\x01\xff\xff");
     WRITES(lists(25, -1, NONE, NONE, NONE, out, out_len, NONE, NONE, NONE, NONE), "H\0\0\0\x07\xff\0\0");
     WRITES(lists(26, -128, NONE, NONE, NONE, out, out_len, NONE, NONE, one, 1, NONE), "W\0\0\0\x09\x80\0\x01\0\x01");
-    size_t others[] = {0, 3, 16, 17, 20, 21, 27, 30, 31, SIZE_MAX};
+    size_t others[] = {/* kinds with no list, or with row fields */ TUSWERAM_CLOSE, TUSWERAM_EMPTY_QUERY_RESPONSE,
+                       TUSWERAM_ROW_DESCRIPTION, TUSWERAM_COMMAND_COMPLETE, TUSWERAM_READY_FOR_QUERY, TUSWERAM_NOTIFICATION_RESPONSE,
+                       TUSWERAM_GSS_ENC_RESPONSE, /* and none */ 0, 31, SIZE_MAX};
     for (size_t i = 0; i < sizeof others / sizeof *others; i++)
         REFUSES(2, lists(others[i], 0, NONE, NONE, NONE, out, out_len, NONE, NONE, NONE, NONE));
     /* lengths that say more or less than is lent */

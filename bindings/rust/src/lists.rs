@@ -86,7 +86,7 @@ pub struct FieldsIter<'a>(Walk<'a>);
 #[derive(Clone)]
 pub struct ErrorFieldsIter<'a>(Walk<'a>);
 
-// The elements of a list from a place on, so many as are left of its count.
+// The elements of a list from a place on, as many as are left of its count.
 #[derive(Clone, Copy)]
 struct Walk<'a> {
     frame: &'a [u8],

@@ -161,8 +161,8 @@ fn round_trips() {
 fn damage() {
     let mut r = Random(2);
     let mut taken = 0;
-    for i in 0..cases() * 27 {
-        let (mode, type_byte, body) = KINDS[i % 27];
+    for i in 0..cases() * KINDS.len() {
+        let (mode, type_byte, body) = KINDS[i % KINDS.len()];
         let mut buf = frame(&mut r, type_byte, body);
         match r.below(3) {
             0 => {

@@ -6,7 +6,7 @@
 //! Both forms go through the same points in the same order, so that a count is known by its place.
 
 use crate::content::{Content, Field, RowField};
-use crate::model::{self, KINDS};
+use crate::model::{self, named, Framing, KINDS};
 use crate::{oracle, ours};
 use bytes::BytesMut;
 use std::collections::BTreeMap;
@@ -106,7 +106,7 @@ fn costs(p: &mut Points, name: String, mode: u8, contents: &[Content]) -> Costs 
     Costs { name, bytes: bytes / frames.len(), decode, rust_decode, copy, encode, rust_encode }
 }
 
-/// A content of a kind, with strings and values of so many bytes and lists of so many elements.
+/// A content of a kind, with strings and values of `text` bytes and lists of `list` elements.
 fn sized(kind: &model::Kind, text: usize, list: usize) -> Content {
     use model::Part::*;
     let letters = |n: usize| (0..n).map(|i| b'a' + (i % 26) as u8).collect::<Vec<u8>>();
@@ -123,14 +123,22 @@ fn sized(kind: &model::Kind, text: usize, list: usize) -> Content {
             Oids => Field::Oids(vec![23; list]),
             Formats => Field::Formats(vec![1; list]),
             Values => Field::Values(vec![Some(letters(text)); list]),
-            Rows => Field::Rows(vec![
-                RowField { name: letters(text), table_id: 16_384, column_id: 3, type_id: 25, type_size: -1, type_modifier: -1, format_code: 0 };
+            RowFields => Field::RowFields(vec![
+                RowField {
+                    name: letters(text),
+                    table_id: 16_384,
+                    column_id: 3,
+                    type_id: 25,
+                    type_size: -1,
+                    type_modifier: -1,
+                    format_code: 0
+                };
                 list
             ]),
             Errors => Field::Errors(vec![(b'M', letters(text)); list]),
         })
         .collect();
-    let fields = if kind.mode > 2 { vec![Field::Num(0)] } else { fields };
+    let fields = if kind.framing() == Framing::Bare { vec![Field::Num(0)] } else { fields };
     Content { kind: kind.number, fields }
 }
 
@@ -142,9 +150,8 @@ fn generated(p: &mut Points) -> Vec<Costs> {
         if KINDS[..i].iter().any(|other| other.number == k.number) {
             continue;
         }
-        let has = |parts: &[model::Part]| k.body.iter().any(|part| parts.contains(part));
-        let texts: &[usize] = if has(&[Str, Rest, Values, Rows, Errors]) { &[8, 64, 1024] } else { &[0] };
-        let lists: &[usize] = if has(&[Oids, Formats, Values, Rows]) { &[1, 10, 100, 900] } else { &[1] };
+        let texts: &[usize] = if k.has(&[Str, Rest, Values, RowFields, Errors]) { &[8, 64, 1024] } else { &[0] };
+        let lists: &[usize] = if k.has(&[Oids, Formats, Values, RowFields]) { &[1, 10, 100, 900] } else { &[1] };
         for text in texts {
             for list in lists {
                 // a longer text beside more than one element tells nothing new
@@ -176,8 +183,8 @@ fn real(p: &mut Points, traffic: &[(u8, Vec<u8>)]) -> Vec<Costs> {
             }
         }
     }
-    let named = |number: u8, n: usize| format!("{}, {n} real frames", model::named(number).name);
-    kinds.iter().map(|((mode, number), cs)| costs(p, named(*number, cs.len()), *mode, cs)).collect()
+    let name = |number: u8, n: usize| format!("{}, {n} real frames", model::numbered(number).name);
+    kinds.iter().map(|((mode, number), cs)| costs(p, name(*number, cs.len()), *mode, cs)).collect()
 }
 
 struct Single {
@@ -187,7 +194,7 @@ struct Single {
 
 /// What the reader and an element call cost on a row of 900 columns, and memchr beside a string.
 fn singles(p: &mut Points) -> Vec<Single> {
-    let row = |n: usize| model::encode(&model::given(&sized(model::named(19), 8, n)), usize::MAX).expect("a frame");
+    let row = |n: usize| model::encode(&model::given(&sized(named("DataRow"), 8, n)), usize::MAX).expect("a frame");
     let mut all = Vec::new();
     let mut single = |p: &mut Points, name: String, call: &mut dyn FnMut()| {
         let cost = p.point(1, call);
@@ -214,7 +221,7 @@ fn singles(p: &mut Points) -> Vec<Single> {
         });
     }
     for n in [1, 10, 100, 900] {
-        let f = model::encode(&model::given(&sized(model::named(17), 8, n)), usize::MAX).expect("a frame");
+        let f = model::encode(&model::given(&sized(named("RowDescription"), 8, n)), usize::MAX).expect("a frame");
         single(p, format!("description of {n} columns: each field by a call, after decode"), &mut || {
             let mut at = 7;
             for _ in 0..n {
@@ -224,7 +231,7 @@ fn singles(p: &mut Points) -> Vec<Single> {
         });
     }
     for n in [0usize, 8, 64, 1024] {
-        let tag = sized(model::named(20), n, 0);
+        let tag = sized(named("CommandComplete"), n, 0);
         let f = model::encode(&model::given(&tag), usize::MAX).expect("a frame");
         single(p, format!("CommandComplete with a tag of {n}"), &mut || {
             black_box(&ours::decode(1, black_box(&f)));

@@ -19,13 +19,13 @@ pub enum Field {
     Oids(Vec<u32>),
     Formats(Vec<i16>),
     Values(Vec<Option<Vec<u8>>>),
-    Rows(Vec<RowField>),
+    RowFields(Vec<RowField>),
     Errors(Vec<(u8, Vec<u8>)>),
     /// A DataRow as the Rust keeps it: the count, and the bytes after it, not taken apart.
     Unread(i16, Vec<u8>),
 }
 
-/// A kind by its number (the numbers of host's `numbersOf`) and its fields from left to right.
+/// A kind by its number at the library's boundary, and its fields from left to right.
 #[derive(Clone, PartialEq, Eq, Debug)]
 pub struct Content {
     pub kind: u8,
@@ -33,7 +33,7 @@ pub struct Content {
 }
 
 /// A text after the Rust's lossy reading.
-pub fn lossy(text: &[u8]) -> Vec<u8> {
+fn lossy(text: &[u8]) -> Vec<u8> {
     String::from_utf8_lossy(text).into_owned().into_bytes()
 }
 
@@ -45,7 +45,9 @@ impl Content {
             .iter()
             .map(|f| match f {
                 Field::Text(t) => Field::Text(lossy(t)),
-                Field::Rows(rows) => Field::Rows(rows.iter().map(|r| RowField { name: lossy(&r.name), ..r.clone() }).collect()),
+                Field::RowFields(fields) => {
+                    Field::RowFields(fields.iter().map(|f| RowField { name: lossy(&f.name), ..f.clone() }).collect())
+                }
                 Field::Errors(errors) => Field::Errors(errors.iter().map(|(c, t)| (*c, lossy(t))).collect()),
                 other => other.clone(),
             })
@@ -53,17 +55,12 @@ impl Content {
         Content { kind: self.kind, fields }
     }
 
-    /// The same with a DataRow's values as the Rust keeps them: joined, each with its length.
+    /// The same with a DataRow's values as the Rust keeps them: joined, each with its length. A DataRow is values and nothing else.
     pub fn unread(&self) -> Content {
-        let fields = self
-            .fields
-            .iter()
-            .map(|f| match f {
-                Field::Values(values) if self.kind == 19 => Field::Unread(values.len() as i16, joined(values)),
-                other => other.clone(),
-            })
-            .collect();
-        Content { kind: self.kind, fields }
+        match &self.fields[..] {
+            [Field::Values(values)] => Content { kind: self.kind, fields: vec![Field::Unread(values.len() as i16, joined(values))] },
+            _ => self.clone(),
+        }
     }
 }
 

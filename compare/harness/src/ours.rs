@@ -1,17 +1,37 @@
 //! The Rattle library, by the numbers at its boundary: the binding for Rust declares its functions.
 
-use crate::model::Given;
-use tusweram::ffi::{self, Lists, Plain};
+use crate::model::{numbered, Given, Kind, Part, RowFieldGiven};
+use tusweram::ffi::{self, Lists, Plain, Row};
 use tusweram::{FieldDescription, Span};
 
-pub use tusweram::ffi::{data_row, decode, element, field, value, Row};
+pub use tusweram::ffi::{data_row, decode, element, field, value};
 
-/// The item at a place of a frame of a kind whose items have no fixed size: a value, a row's field or an error's.
-pub fn item(kind: u8, frame: &[u8], at: usize) -> Row {
-    match kind {
-        17 => ffi::field(frame, at),
-        19 => ffi::value(frame, at),
-        _ => ffi::error_field(frame, at),
+/// The item at a place of a frame, of a list whose items have no fixed size.
+pub fn item(list: Part, frame: &[u8], at: usize) -> Row {
+    match list {
+        Part::Values => ffi::value(frame, at),
+        Part::RowFields => ffi::field(frame, at),
+        Part::Errors => ffi::error_field(frame, at),
+        _ => panic!("no call reads an item of {list:?}"),
+    }
+}
+
+/// The calls that write: `tusweram_encode`, `tusweram_encode_lists` and `tusweram_encode_row_description`.
+#[derive(Clone, Copy, PartialEq, Eq, Debug)]
+pub enum Call {
+    Plain,
+    Lists,
+    RowDescription,
+}
+
+/// The call that writes a kind: by whether its body has a list, and of what.
+pub fn call(kind: &Kind) -> Call {
+    if kind.has(&[Part::RowFields]) {
+        Call::RowDescription
+    } else if kind.has(&[Part::Oids, Part::Formats, Part::Values, Part::Errors]) {
+        Call::Lists
+    } else {
+        Call::Plain
     }
 }
 
@@ -29,43 +49,42 @@ pub fn prepared(g: &Given) -> Box<dyn Fn(&mut [u8]) -> usize + '_> {
     let text = |i: usize| g.texts.get(i).map(Vec::as_slice).unwrap_or(&[]);
     let number = |i: usize| g.numbers.get(i).copied().unwrap_or(0);
     let (kind, one, two) = (g.kind as usize, text(0), text(1));
-    let lists = Lists {
-        format: number(0) as i8,
-        one,
-        two,
-        joined: &g.joined,
-        words: &g.oids,
-        lengths: &g.lengths,
-        formats: &g.formats,
-        results: &g.results,
-    };
-    match g.kind {
-        17 => {
-            let fields = fields(g);
+    match call(numbered(g.kind)) {
+        Call::RowDescription => {
+            let fields: Vec<_> = g.row_fields.iter().map(field_description).collect();
             Box::new(move |out| ffi::encode_row_description(&fields, &g.joined, out))
         }
-        1 | 2 | 18 | 19 | 24..=26 => Box::new(move |out| ffi::encode_lists(kind, lists, out)),
-        22 | 23 => {
-            let lists = Lists { one: &g.codes, two: &[], words: &g.sizes, ..lists };
+        Call::Lists => {
+            // an error's codes and lengths stand where other kinds have a text and oids
+            let errors = numbered(g.kind).has(&[Part::Errors]);
+            let lists = Lists {
+                format: number(0) as i8,
+                one: if errors { &g.codes } else { one },
+                two,
+                joined: &g.joined,
+                words: if errors { &g.sizes } else { &g.oids },
+                lengths: &g.lengths,
+                formats: &g.formats,
+                results: &g.results,
+            };
             Box::new(move |out| ffi::encode_lists(kind, lists, out))
         }
         // a target, a status or an answer stands where there is no other number
-        _ => {
+        Call::Plain => {
             let plain = Plain { byte: number(0) as u8, first: number(0) as i32, second: number(1) as i32, one, two };
             Box::new(move |out| ffi::encode(kind, plain, out))
         }
     }
 }
 
-fn fields(g: &Given) -> Vec<FieldDescription> {
-    let field = |r: &crate::model::RowGiven| FieldDescription {
-        name: Span { start: r.start, len: r.len },
-        table_id: r.table_id,
-        column_id: r.column_id,
-        type_id: r.type_id,
-        type_size: r.type_size,
-        type_modifier: r.type_modifier,
-        format_code: r.format_code,
-    };
-    g.rows.iter().map(field).collect()
+fn field_description(f: &RowFieldGiven) -> FieldDescription {
+    FieldDescription {
+        name: Span { start: f.start, len: f.len },
+        table_id: f.table_id,
+        column_id: f.column_id,
+        type_id: f.type_id,
+        type_size: f.type_size,
+        type_modifier: f.type_modifier,
+        format_code: f.format_code,
+    }
 }

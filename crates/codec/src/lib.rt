@@ -1,6 +1,6 @@
 // The cursor over one frame, as codec.rs reads a buffer: it goes in by value and comes back advanced, or the answer is a fault.
 // The frame ends where the lent slice ends, so nothing past it can be read.
-// Its functions are inner: for crates of this library alone (docs/CONTRACTS.md, "Inner functions"). The answers' types are a frame reader's too.
+// Its functions are inner: for crates of this library alone (docs/INNER.md). The answers' types are a frame reader's too.
 ghost use Prim.Native.Nat.{_+_, _*_, _/_, _%_, _≤_, _<_};
 ghost use mathlib.Core.Path.{_≡_};
 ghost use lib.ListN.{getD, length};
@@ -112,7 +112,7 @@ fn four(s: &[u8], at: usize) -> u32
     a + b * 256 + c * 65536 + d * 16777216
 }
 
-// The same four bytes, the first the most: a byte swap.
+// What `four` gives, with the first byte the most: a byte swap.
 fn turned(x: u32) -> u32
     ensures { λ r. ⌜ r ≡ x % 256 * 16777216 + x / 256 % 256 * 65536 + x / 65536 % 256 * 256 + x / 16777216 ⌝ }
 {
@@ -215,7 +215,7 @@ impl Cursor {
         }
     }
 
-    // The count of a list whose elements have at least so many bytes each. The list starts after it.
+    // The count of a list whose elements have at least `least` bytes each. The list starts after it.
     pub fn count(self, frame: &[u8], least: u8) -> Listed
         ensures { λ r. ⌜ listedRead r ≡ readCount signedCount least (now (frame .entry)) (self .at) ⌝ }
     {
@@ -234,7 +234,7 @@ impl Cursor {
         Listed::Is(List { start, count }, c)
     }
 
-    // A list whose elements have so many bytes each is passed by arithmetic.
+    // A list whose elements have `size` bytes each is passed by arithmetic.
     fn fixed(self, frame: &[u8], size: u8) -> Listed
         ensures { λ r. ⌜ listedRead r ≡ readFixed size (now (frame .entry)) (self .at) ⌝ }
     {
@@ -276,7 +276,7 @@ impl Cursor {
         }
     }
 
-    // Past so many values, each checked.
+    // Past `count` values, each checked.
     pub fn pass_values(self, rules: Rules, frame: &[u8], count: usize) -> Passed
         ensures { λ r. ⌜ passedRead r ≡ passItems rules nullable count (now (frame .entry)) (self .at) ⌝ }
     {

@@ -1,5 +1,5 @@
 // The choice by kind, made once: a frame's type byte, code or answer byte leads to the decoder of its kind.
-// Inner: for crates of this library alone (docs/CONTRACTS.md, "Inner functions").
+// Inner: for crates of this library alone (docs/INNER.md).
 ghost use mathlib.Core.Path.{_≡_};
 ghost use Rattle.protocol.specs.Decode.{decodeIn};
 ghost use Rattle.protocol.specs.Kinds as K;

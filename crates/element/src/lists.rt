@@ -1,5 +1,5 @@
 // Which lists a message has: the sort of their items and where they stand.
-// Inner: for crates of this library alone (docs/CONTRACTS.md, "Inner functions").
+// Inner: for crates of this library alone (docs/INNER.md).
 ghost use mathlib.Core.Path.{_≡_};
 ghost use Rattle.element.specs.Lists.{bindLists, listsOf, only};
 use protocol::List;

@@ -1,6 +1,6 @@
--- A door to `row_description` takes an array of fields by value and lends it as the slice. Whatever the array's length, the walk of its code
--- is the same, so it is said once. The array is copied into a memory slot and lent for a lifetime that is made for the call; `out` goes to
--- the call for good.
+-- `door`: a function that takes an array of fields by value and lends it to `row_description` as the slice. Whatever the array's length, the walk
+-- of its code is the same, so it is said once. The array is copied into a memory slot and lent for a lifetime that is made for the call; `out`
+-- goes to the call for good.
 use Prim.Native.Nat.{ℕ, _^_}
 use mathlib.Core.List.{List, [], _∷_}
 use mathlib.Core.Path.{_≡_, refl, sym, subst}

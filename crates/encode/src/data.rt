@@ -42,7 +42,7 @@ pub fn row_description(fields: &[FieldDescription], run: &[u8], out: &mut [u8]) 
     r
 }
 
-// Doors for callers that have one field or two by value. Walked by hand: the array is lent.
+// For callers that have one field or two by value. Walked by hand: the array is lent to row_description.
 pub fn row_description_of_one(fields: [FieldDescription; 1], run: &[u8], out: &mut [u8]) -> Encoded
     ensures { λ r. ⌜ Encodes K.backend K.rowDescription (G.rowDescription fields (now (run .entry))) (now (out .entry)) r (now (out .exit)) ⌝ }
 {

@@ -24,7 +24,7 @@ valueOut (got none next) = recordOut next (3 ∷ [])
 valueOut (got (some s) next) = recordOut next (4 ∷ span s)
 valueOut (bad number place) = refusedOut 16 number place
 
--- a row's field and an error's, likewise
+-- a row's field and an error's field as elements are, with the next place for the bytes consumed
 unfoldable pub fieldOut : Read FieldDescription → List ℕ
 fieldOut (got d next) = recordOut next (5 ∷ fieldNumbers d)
 fieldOut (bad number place) = refusedOut 16 number place

@@ -21,7 +21,7 @@ module _ (rules : Rules) (i : Item) (f : List ℕ) (p : ℕ) {X : Type 0} (make 
   unfolding passItems
   passed-by r e = ap forgotten e ∙ by (readItem rules i f p)
 
--- the same, where nothing is made of it
+-- past one item of which nothing is made
 module _ (rules : Rules) (i : Item) (f : List ℕ) (p : ℕ) where
   alone : (r : Read (Each AtomSlot (i .atoms))) → forgotten r ≡ andThen r (λ s q. passItems rules i 0 f q)
   unfolding passItems

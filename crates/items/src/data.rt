@@ -68,7 +68,7 @@ fn pass_field(rules: Rules, frame: &[u8], c: Cursor) -> Passed
     }
 }
 
-// Past so many fields, each checked.
+// Past `count` fields, each checked.
 pub fn pass_fields(rules: Rules, frame: &[u8], c: Cursor, count: usize) -> Passed
     ensures { λ r. ⌜ passedRead r ≡ passItems rules K.rowField count (now (frame .entry)) (c .at) ⌝ }
 {

@@ -77,7 +77,7 @@ fn pass_error_field(rules: Rules, frame: &[u8], c: Cursor) -> Passed
     }
 }
 
-// Past so many fields, whatever their codes.
+// Past `count` fields, whatever their codes.
 pub fn pass_error_fields(rules: Rules, frame: &[u8], c: Cursor, count: usize) -> Passed
     ensures { λ r. ⌜ passedRead r ≡ passItems rules K.errorField count (now (frame .entry)) (c .at) ⌝ }
 {

@@ -215,7 +215,7 @@ module _ (rules : Rules) (f : List ℕ) (b : Bytes f) (p : ℕ) where
   one-of-by bs (bad k x) v q r e = let z : _≡_ {A = ℕ} 0 1 = cc in absurd (omega arith)
   one-of-by bs (got n a) v q r e = one-of-test bs n a (isOneOf n bs) v q refl r e
 
-  -- a value: its length word was read, and says so many bytes, or NULL
+  -- a value: its length word was read, and says how many bytes it has, or NULL
   value-test : (n a : ℕ) (t : Bool) (v : Option Span) (q : ℕ) → NumberWas 4 f p n a → n < 256 ^ 4 / 2 → leb (a + n) (length f) ≡ t → cond t (got (some (record { start = a; len = n })) (a + n)) (bad cut p) ≡ got v q → AtomWas rules value f p v q
   unfolding atomBytes valueBytes atomSlot valueSlot AtomInRange ValueInRange atomAble
   value-test n a false v q h s m e = let z : _≡_ {A = ℕ} 0 1 = cc in absurd (omega arith)

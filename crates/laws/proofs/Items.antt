@@ -83,7 +83,7 @@ module _ (rules : Rules) (i : Item) (sane : T (saneItem i)) where
       let l : length pre + length b + length t ≡ length pre + length (b ++ t) = simp length-append (omega arith) in
       rw (append-assoc b t post, item-back c pre (t ++ post) (r .0) (able .0), ← append-assoc pre b (t ++ post), ← q, ih, q, l) refl
 
--- ---- at least so many bytes
+-- ---- atoms and items have at least their smallest number of bytes
 
 value-least : (v : AtomContent value) → 4 ≤ length (valueBytes v)
 unfolding valueBytes

@@ -1,4 +1,4 @@
--- Lists: a count and so many items, or items and a zero byte. Their bytes are read as them.
+-- Lists: a count and that many items, or items and a zero byte. Their bytes are read as them.
 use Prim.Native.Nat.{ℕ, zero, suc, _+_, _-_, _*_, _/_, _^_, _≤_, _<_}
 use mathlib.Core.Bool.{Bool, true, false, cond, _&&_}
 use mathlib.Core.List.{List, [], _∷_, _++_, append-assoc}

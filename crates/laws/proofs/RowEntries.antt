@@ -131,7 +131,7 @@ module _ (rules : Rules) (f : List ℕ) where
   passed zero p q i e h = absurd (omega arith)
   passed (suc n) p q i e h = passed-by n p q (λ next j. passed n next q j) i h (readValue f p) refl e
 
-  -- and there are so many entries
+  -- and there is an entry for each value
   many-by : (n p q : ℕ) → ((next : ℕ) → passItems rules nullable n f next ≡ got tt q → length (placesFrom n f next) ≡ n) → (r : Read (Option Span)) → readValue f p ≡ r
       → andThen (andThen {Y = Each AtomSlot (nullable .atoms)} r (λ s q. got (s, tt) q)) (λ s q. passItems rules nullable n f q) ≡ got tt q → length (placesFrom (suc n) f p) ≡ suc n
   unfolding placesFrom entryOf

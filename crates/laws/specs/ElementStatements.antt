@@ -39,7 +39,8 @@ ElementsMoreBytes call =
     (rules : Rules) (s t : List ℕ) (l n : ℕ) → ofElement (call rules s l n) .needMore ≡ false
     → ofElement (call rules (s ++ t) l n) ≡ ofElement (call rules s l n)
 
--- 5. Numbered. A refusal has a number from 1 to 8, or 11; an element call consumes nothing, and where it is refused or needs more it gives no element.
+-- 5. Numbered. A refusal has a number from 1 to 8, or 11; an element call consumes nothing, and where it is refused or needs more it gives no
+-- element.
 abbrev pub elementNumbers : List ℕ
 elementNumbers = decodeNumbers ++ 11 ∷ []
 

@@ -35,8 +35,14 @@ abbrev pub Encoder : Type 0
 Encoder = (m : Mode) (k : Kind) → Option (Contents k) → List ℕ → Outcome
 
 -- one that answers by `answered` of the output's room, and leaves what `written` says of that answer
-abbrev pub encoderWith : ((m : Mode) (k : Kind) → Option (Contents k) → ℕ → Encoded) → ((m : Mode) (k : Kind) → Option (Contents k) → Encoded → List ℕ → List ℕ) → Encoder
-encoderWith answered written m k given out = record { answer = answered m k given (length out); output = written m k given (answered m k given (length out)) out }
+abbrev pub encoderWith :
+    ((m : Mode) (k : Kind) → Option (Contents k) → ℕ → Encoded)
+    → ((m : Mode) (k : Kind) → Option (Contents k) → Encoded → List ℕ → List ℕ)
+    → Encoder
+encoderWith answered written m k given out = record {
+  answer = answered m k given (length out);
+  output = written m k given (answered m k given (length out)) out;
+}
 
 abbrev pub theEncoder : Encoder
 theEncoder = encoderWith encodedBy writtenBy
@@ -57,8 +63,8 @@ WithinLimit m k given = (c : Contents k) × (given ≡ some c) × (lengthOf (m .
 abbrev pub HasRoom : Mode → (k : Kind) → Option (Contents k) → List ℕ → Type 0
 HasRoom m k given out = (c : Contents k) × (given ≡ some c) × (length (frame (m .envelope) k c) ≤ length out)
 
--- Refusal 10 exactly where they are not representable, then 4 exactly where the length is above the limit, then 9 exactly where there is no room, each at
--- place 0; else it succeeds, and the output begins with the frame of the content.
+-- Refusal 10 exactly where they are not representable, then 4 exactly where the length is above the limit, then 9 exactly where there is no room,
+-- each at place 0; else it succeeds, and the output begins with the frame of the content.
 pub record EncodesExactly (encode : Encoder) (m : Mode) (k : Kind) (given : Option (Contents k)) (out : List ℕ) : Type 0 where
   pub ten : (ofEncoded (encode m k given out .answer) ≡ refusal notRepresentable 0) ↔ (Representable m k given → ⊥)
   pub four : (ofEncoded (encode m k given out .answer) ≡ refusal lengthAboveLimit 0) ↔ (Representable m k given × (WithinLimit m k given → ⊥))
@@ -67,7 +73,8 @@ pub record EncodesExactly (encode : Encoder) (m : Mode) (k : Kind) (given : Opti
       ↔ (Representable m k given × WithinLimit m k given × (HasRoom m k given out → ⊥))
   pub done : (n : ℕ)
       → (ofEncoded (encode m k given out .answer) ≡ success tt n)
-      ↔ ((Representable m k given × WithinLimit m k given × HasRoom m k given out) × ((c : Contents k) → given ≡ some c → n ≡ length (frame (m .envelope) k c)))
+      ↔ ((Representable m k given × WithinLimit m k given × HasRoom m k given out)
+      × ((c : Contents k) → given ≡ some c → n ≡ length (frame (m .envelope) k c)))
   pub writes : (n : ℕ) (c : Contents k) → given ≡ some c
       → ofEncoded (encode m k given out .answer) ≡ success tt n
       → take n (encode m k given out .output) ≡ frame (m .envelope) k c
@@ -100,8 +107,8 @@ OneEncoder encode =
     → (ofEncoded (other m k given out .answer) ≡ ofEncoded (encode m k given out .answer))
     × (other m k given out .output ≡ encode m k given out .output)
 
--- 5. Round trip. What was written, followed by any bytes, decodes, in every mode that has the kind, to the message of the content and consumes its own
--- bytes only; each field's part is the content's, and each list's elements are the content's items.
+-- 5. Round trip. What was written, followed by any bytes, decodes, in every mode that has the kind, to the message of the content and consumes its
+-- own bytes only; each field's part is the content's, and each list's elements are the content's items.
 pub record Decodes (decode : Decoder) (call : ElementCall) (rules : Rules) (m : Mode) (k : Kind) (c : Contents k) (s : List ℕ) (n : ℕ) : Type 0 where
   pub decoded : ofDecoded (decode rules s) ≡ success (recordOf (m .envelope) k c) n
   pub placed : FieldsPlaced s (k .body) (bodyStart (m .envelope)) (slotsOfEach bytes slot (k .body) (bodyStart (m .envelope)) c) c
@@ -114,8 +121,8 @@ RoundTrip encode decode call =
     → (rules : Rules) (reads : Mode) → IsIn reads modes → reads .mode ≡ rules .mode → IsIn k (reads .kinds)
     → Decodes decode call rules reads k c (take n (encode m k (some c) out .output) ++ t) n
 
--- 6. Which content lists of arguments are. Values: one for each length, NULL exactly where the length is -1, else the bytes of the joined run after the
--- earlier lengths, NULL as 0. They are none exactly where a length is below -1 or the lengths do not add up to the joined bytes.
+-- 6. Which content lists of arguments are. Values: one for each length, NULL exactly where the length is -1, else the bytes of the joined run after
+-- the earlier lengths, NULL as 0. They are none exactly where a length is below -1 or the lengths do not add up to the joined bytes.
 pub record ValuesAre (lengths : List ℤ) (joined : List ℕ) : Type 0 where
   pub items : (cs : List (ItemContent nullable)) → valuesGiven lengths joined ≡ some cs
       → (i : ℕ) (z : ℤ) → nth lengths i ≡ some z → nth cs i ≡ some (valueAt z (total sizeOf (take i lengths)) joined, tt)
@@ -125,8 +132,8 @@ pub record ValuesAre (lengths : List ℤ) (joined : List ℕ) : Type 0 where
 abbrev pub Values : Type 0
 Values = (lengths : List ℤ) (joined : List ℕ) → ValuesAre lengths joined
 
--- An error's fields: one for each code, with its string's bytes of the joined run after the earlier lengths. They are none exactly where codes and lengths
--- differ in number, or the lengths do not add up to the joined bytes.
+-- An error's fields: one for each code, with its string's bytes of the joined run after the earlier lengths. They are none exactly where codes and
+-- lengths differ in number, or the lengths do not add up to the joined bytes.
 pub record ErrorFieldsAre (codes lengths joined : List ℕ) : Type 0 where
   pub items : (cs : List (ItemContent errorField)) → errorFieldsGiven codes lengths joined ≡ some cs
       → (i code n : ℕ) → nth codes i ≡ some code → nth lengths i ≡ some n
@@ -137,7 +144,8 @@ pub record ErrorFieldsAre (codes lengths joined : List ℕ) : Type 0 where
 abbrev pub ErrorFields : Type 0
 ErrorFields = (codes lengths joined : List ℕ) → ErrorFieldsAre codes lengths joined
 
--- A row's fields: one for each record, its name's part of the run and its numbers; names may overlap. They are none exactly where a name reaches outside.
+-- A row's fields: one for each record, its name's part of the run and its numbers; names may overlap. They are none exactly where a name reaches
+-- outside.
 pub record RowFieldIs (run : List ℕ) (d : FieldDescription) (c : ItemContent rowField) : Type 0 where
   pub name : c .0 ≡ partOf run (d .name .start) (d .name .len)
   pub «table_id» : c .1 .0 ≡ d .«table_id»
@@ -164,6 +172,9 @@ NumberItems = (A : Type 0) (xs : List A) (i : ℕ) (x : A) → nth xs i ≡ some
 pub record ArgumentsInRange : Type 0 where
   pub oids : (xs : List ℕ) → All (Unsigned 4) xs → ItemsInRange oid (items xs)
   pub formats : (zs : List ℤ) → All (Signed 2) zs → ItemsInRange format (items zs)
-  pub values : (lengths : List ℤ) (joined : List ℕ) (cs : List (ItemContent nullable)) → All (Signed 4) lengths → Bytes joined → valuesGiven lengths joined ≡ some cs → ItemsInRange nullable cs
-  pub errorFields : (codes lengths joined : List ℕ) (cs : List (ItemContent errorField)) → Bytes codes → Bytes joined → errorFieldsGiven codes lengths joined ≡ some cs → ItemsInRange errorField cs
-  pub rowFields : (fields : List FieldDescription) (run : List ℕ) (cs : List (ItemContent rowField)) → All TypedField fields → Bytes run → rowFieldsGiven fields run ≡ some cs → ItemsInRange rowField cs
+  pub values : (lengths : List ℤ) (joined : List ℕ) (cs : List (ItemContent nullable))
+      → All (Signed 4) lengths → Bytes joined → valuesGiven lengths joined ≡ some cs → ItemsInRange nullable cs
+  pub errorFields : (codes lengths joined : List ℕ) (cs : List (ItemContent errorField))
+      → Bytes codes → Bytes joined → errorFieldsGiven codes lengths joined ≡ some cs → ItemsInRange errorField cs
+  pub rowFields : (fields : List FieldDescription) (run : List ℕ) (cs : List (ItemContent rowField))
+      → All TypedField fields → Bytes run → rowFieldsGiven fields run ≡ some cs → ItemsInRange rowField cs

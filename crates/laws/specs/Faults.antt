@@ -67,7 +67,8 @@ pub record AtomBefore (rules : Rules) (a : Atom) (g h : List ℕ) (at : ℕ) : T
 -- a fault among atoms, `at` bytes after g's first
 pub data AtomsFault (rules : Rules) : List Atom → List ℕ → ℕ → ℕ → Type 0 where
   here : {a : Atom} {more : List Atom} {g : List ℕ} {number : ℕ} → AtomFault a g number → AtomsFault rules (a ∷ more) g number 0
-  later : {a : Atom} {more : List Atom} {g h : List ℕ} {number first at : ℕ} → AtomBefore rules a g h first → AtomsFault rules more h number at → AtomsFault rules (a ∷ more) g number (first + at)
+  later : {a : Atom} {more : List Atom} {g h : List ℕ} {number first at : ℕ}
+      → AtomBefore rules a g h first → AtomsFault rules more h number at → AtomsFault rules (a ∷ more) g number (first + at)
 
 -- right items, and their bytes at the start of g
 pub record ItemsBefore (rules : Rules) (i : Item) (g h : List ℕ) (n at : ℕ) : Type 0 where
@@ -86,11 +87,11 @@ CountFault k i g number =
     × (((n : ℕ) × (countOf k (numberAt 2 g 0) ≡ negsuc n))
     ⊎ ((n : ℕ) × (countOf k (numberAt 2 g 0) ≡ pos n) × (length (drop 2 g) < n * itemLeast i))))
 
--- so many of the smallest items fit into g
+-- n of the smallest items fit into g
 abbrev pub Fit : Item → ℕ → List ℕ → Type 0
 Fit i n g = n * itemLeast i ≤ length g
 
--- a right count: it is there and not negative, and so many of the smallest items fit into what is left after it
+-- a right count: it is there and not negative, and that many of the smallest items fit into what is left after it
 pub record RightCount (k : Count) (i : Item) (g : List ℕ) (n : ℕ) : Type 0 where
   pub there : 2 ≤ length g
   pub is : countOf k (numberAt 2 g 0) ≡ pos n
@@ -139,14 +140,16 @@ pub record FieldBefore (rules : Rules) (x : Field) (g h : List ℕ) (at : ℕ) :
 pub data BodyFault (rules : Rules) : List Field → List ℕ → ℕ → ℕ → Type 0 where
   left : {g : List ℕ} → 1 ≤ length g → BodyFault rules [] g bytesLeft 0
   here : {x : Field} {xs : List Field} {g : List ℕ} {number at : ℕ} → FieldFault rules x g number at → BodyFault rules (x ∷ xs) g number at
-  later : {x : Field} {xs : List Field} {g h : List ℕ} {number first at : ℕ} → FieldBefore rules x g h first → BodyFault rules xs h number at → BodyFault rules (x ∷ xs) g number (first + at)
+  later : {x : Field} {xs : List Field} {g h : List ℕ} {number first at : ℕ}
+      → FieldBefore rules x g h first → BodyFault rules xs h number at → BodyFault rules (x ∷ xs) g number (first + at)
 
 -- ---- 1 to 4: the header
 
 -- the length word at p is below the smallest length, or above the limit
 abbrev pub LengthFault : Kind → ℕ → List ℕ → ℕ → Type 0
 LengthFault k p s number =
-    ((number ≡ lengthTooSmall) × (((n : ℕ) × (signedOf 4 (numberAt 4 s p) ≡ negsuc n)) ⊎ ((n : ℕ) × (signedOf 4 (numberAt 4 s p) ≡ pos n) × (n < k .smallest))))
+    ((number ≡ lengthTooSmall)
+    × (((n : ℕ) × (signedOf 4 (numberAt 4 s p) ≡ negsuc n)) ⊎ ((n : ℕ) × (signedOf 4 (numberAt 4 s p) ≡ pos n) × (n < k .smallest))))
     ⊎ ((number ≡ lengthAboveLimit) × ((n : ℕ) × (signedOf 4 (numberAt 4 s p) ≡ pos n) × (k .smallest ≤ n) × (k .limit < n)))
 
 -- no kind has the tag

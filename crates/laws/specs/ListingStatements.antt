@@ -1,5 +1,5 @@
--- What is proved of the listing's steps: what stands at a place of a stream (docs/FORMAT.md 10). That the lines of a listing are those of its steps is proved in crate
--- listing (proofs/Printed).
+-- What is proved of the listing's steps: what stands at a place of a stream (docs/FORMAT.md 10). That the lines of a listing are those of its steps
+-- is proved in crate listing (proofs/Printed).
 use Prim.Native.Nat.{ℕ, _≤_, _<_}
 use mathlib.Core.List.{List}
 use mathlib.Core.Logic.{_↔_}
@@ -15,8 +15,8 @@ use Rattle.listing.specs.Listing.{ofStep, stepOf}
 use Rattle.listing.specs.declared.Step.{Step}
 use Rattle.laws.specs.Statements.{Decoder, IsNumbered, decodeNumbers}
 
--- At p no byte is left exactly where the step says whole, with no message and nothing consumed. Else it says what decoding says of the bytes from p on:
--- the same message and bytes, need-more, or the same number with the place where the unread frame begins.
+-- At p no byte is left exactly where the step says whole, with no message and nothing consumed. Else it says what decoding says of the bytes from p
+-- on: the same message and bytes, need-more, or the same number with the place where the unread frame begins.
 pub record StepSays (decode : Decoder) (rules : Rules) (s : List ℕ) (p : ℕ) (step : Step) : Type 0 where
   pub whole : (ofStep p step ≡ success none 0) ↔ (length s ≤ p)
   pub frame : (m : Message) (n : ℕ)

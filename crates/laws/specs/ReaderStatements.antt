@@ -1,5 +1,5 @@
--- What is proved of reading a frame field after field, as a host does with a frame reader. A reader's answers are functions of the frame's bytes and of a
--- place; the theorem holds of `theReader`, to which the reader's functions are proved equal.
+-- What is proved of reading a frame field after field, as a host does with a frame reader. A reader's answers are functions of the frame's bytes and
+-- of a place; the theorem holds of `theReader`, to which the reader's functions are proved equal.
 use Prim.Native.Nat.{ℕ, _+_, _≤_, _<_}
 use mathlib.Core.List.{List, [], _∷_, _++_}
 use mathlib.Core.Logic.{_⊎_}
@@ -64,7 +64,8 @@ ItemsInOrder reader f i p (c ∷ cs) = AtomsInOrder reader f (i .atoms) p c × I
 unfoldable pub FieldInOrder : Reader → List ℕ → (x : Field) → ℕ → Content x → Type 0
 FieldInOrder reader f (one a) p c = AtomInOrder reader f a p c
 FieldInOrder reader f (counted k i) p cs = (reader .number 2 f p ≡ got (length cs) (p + 2)) × ItemsInOrder reader f i (p + 2) cs
-FieldInOrder reader f (ended i) p cs = ItemsInOrder reader f i p cs × (reader .number 1 f (p + length (itemsBytes i cs)) ≡ got 0 (p + length (bytes (ended i) cs)))
+FieldInOrder reader f (ended i) p cs =
+    ItemsInOrder reader f i p cs × (reader .number 1 f (p + length (itemsBytes i cs)) ≡ got 0 (p + length (bytes (ended i) cs)))
 
 -- one field after another, to the frame's end
 unfoldable pub FieldsInOrder : Reader → List ℕ → (xs : List Field) → ℕ → Each Content xs → Type 0

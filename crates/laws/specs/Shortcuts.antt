@@ -68,7 +68,7 @@ awaited s (D.Refused number place) =
 abbrev pub waitsForTheBody : Rules → List ℕ → Decoded
 waitsForTheBody rules s = awaited s (decodeOf rules s)
 
--- a count taken at its word: no test whether so many of the smallest elements fit into what is left
+-- a count taken at its word: no test whether that many of the smallest elements fit into what is left
 abbrev atItsWord : Rules → (x : Field) → List ℕ → ℕ → Read (Slot x)
 atItsWord rules (one a) f p = read rules (one a) f p
 atItsWord rules (counted k i) f p = andThen (readCount k 0 f p) (λ l q. andThen (passItems rules i (l .count) f q) (λ _ e. got l e))

@@ -87,8 +87,8 @@ abbrev pub Edges : Decoder → ElementCall → Type 0
 Edges decode call = Answered decode call edges
 
 -- 7. Refusals. Decoding refuses with a number and a place exactly where the fault of that number stands at that place. Of 5 to 8: the frame is there,
--- from its body's start to the place stand right contents, and at the place the fault that FORMAT.md's table names. Of 2 to 4: of the header. Of 1: no
--- mode has the number.
+-- from its body's start to the place stand right contents, and at the place the fault that FORMAT.md's table names. Of 2 to 4: of the header. Of 1:
+-- no mode has the number.
 pub record Faulty (rules : Rules) (s : List ℕ) (number place : ℕ) : Type 0 where
   pub mode : Mode
   pub known : IsIn mode modes

@@ -1,4 +1,4 @@
--- The lines, one after the other, are the listing: what `fill` leaves is always the rest of it, and after so many lines nothing is left.
+-- The lines, one after the other, are the listing: what `fill` leaves is always the rest of it, and after as many lines as it has nothing is left.
 use Prim.Native.Nat.{ℕ, zero, suc, _+_, _-_, _≤_, _<_}
 use mathlib.Core.List.{List, _++_, append-assoc, append-nil}
 use mathlib.Core.Path.{_≡_, refl, ap, sym, _∙_}
@@ -17,7 +17,7 @@ use Rattle.listing.specs.Listing.{openingOf, streamText, textFrom, listi
 use Rattle.listing.proofs.Filling.{before}
 use Rattle.listing.proofs.Steps.{step-over, frame-size}
 
--- ---- turns that are enough come to the same
+-- ---- more turns than are needed change nothing
 
 by-step : (p : ℕ) (x : Step) (f g : ℕ → Stream) → ((m : Message) (n : ℕ) → x ≡ frame m n → f (p + n) ≡ g (p + n)) → streamBy p x f ≡ streamBy p x g
 by-step p (stop e) f g h = refl

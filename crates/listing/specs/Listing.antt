@@ -128,7 +128,7 @@ lineOf input L.All = record { text = header; left = L.From 0 }
 lineOf input (L.From p) = lineFrom (openingOf input) (drop 1 input) p
 lineOf input L.Nothing = record { text = []; left = L.Nothing }
 
--- so many lines, or as many as are left
+-- the next lines: as many as the number says, or all that are left
 unfoldable pub linesOf : ℕ → List ℕ → Left → Lines
 linesOf zero input left = record { text = []; left = left }
 linesOf (suc count) input left =

@@ -17,7 +17,7 @@ use protocol::Decoded;
 use protocol::Message;
 use writers::put_bytes;
 
-// At most so many bytes follow the mode.
+// The most bytes that may follow the mode.
 pub const MOST: usize = 65536;
 
 // What the start of an input says: the mode, or that it names none, or that too many bytes follow it.
@@ -62,7 +62,7 @@ pub fn step_at(mode: u8, stream: &[u8], at: usize) -> Step
     }
 }
 
-// So many bytes follow a digit that names a mode.
+// What an input says whose digit names a mode, with `count` bytes behind it.
 fn opened(mode: u8, count: usize) -> Opening
     ensures { λ r. ⌜ r ≡ sized mode count ⌝ }
 {

@@ -1,5 +1,5 @@
 // The name of each kind, the Rust's type name, as a part of one table.
-// Inner: for crates of this library alone (docs/CONTRACTS.md, "Inner functions").
+// Inner: for crates of this library alone (docs/INNER.md).
 ghost use Rattle.names.specs.Table.{NameAt};
 use protocol::Message;
 

@@ -16,7 +16,7 @@ use Rattle.protocol.specs.Reading.{Read, got, bad, andThen, readNumber, 
 use Rattle.protocol.specs.Refusals.{badCount}
 use Rattle.protocol.proofs.Numbers.{whole}
 
--- the list starts where the count ends, and so many of its smallest elements fit into what is left
+-- the list starts where the count ends, and that many of its smallest elements fit into what is left
 pub record Counted (k : Count) (least : ℕ) (f : List ℕ) (p : ℕ) (l : ListSlot) (q : ℕ) : Type 0 where
   pub bits : ℕ
   pub number : readNumber 2 f p ≡ got bits q
@@ -54,7 +54,7 @@ pub counted-is : (k : Count) (least : ℕ) (f : List ℕ) (p q : ℕ) (l : ListS
 unfolding readCount
 counted-is k least f p q l e = count-by k least f p q l (readNumber 2 f p) refl e
 
--- an item that always has w bytes, where so many are left
+-- an item that always has w bytes, where w bytes are left
 abbrev pub Steady : Rules → Item → ℕ → List ℕ → Type 0
 Steady rules i w f = (p : ℕ) → p + w ≤ length f → (s : Each AtomSlot (i .atoms)) × (readItem rules i f p ≡ got s (p + w))
 

@@ -38,7 +38,7 @@ unfoldable pub elementBy : {X : Type 0} → (X → Element) → Read X → Eleme
 elementBy element (got x next) = element x
 elementBy element (bad number place) = E.Refused number place
 
--- element n of a list, if there is the list and it has so many
+-- element n of a list, if there is the list and n is below its count
 unfoldable pub elementAt : Rules → List ℕ → ℕ → Option Listed → Element
 elementAt rules f n none = E.Refused noSuchElement 0
 elementAt rules f n (some l) =

@@ -1,6 +1,7 @@
 -- The sorts of field (docs/FORMAT.md 1). A body is a list of fields from left to right. A field is an atom, one thing on the wire, or a list of
 -- items, each of which is a list of atoms. For each sort: what it means (content), that a content is in its
--- type's range (InRange) and can be written (able), its bytes, what a record holds of it (slot, docs/FORMAT.md 7), and how many bytes it needs at least.
+-- type's range (InRange) and can be written (able), its bytes, what a record holds of it (slot, docs/FORMAT.md 7), and how many bytes it needs at
+-- least.
 use Prim.Native.Nat.{ℕ, _+_, _/_, _<_, _^_}
 use mathlib.Core.Bool.{Bool, true, false, not, _&&_}
 use mathlib.Core.List.{List, [], _∷_, _++_}
@@ -19,8 +20,8 @@ use Rattle.protocol.specs.Each.{Each, bytesOfEach, slotsOfEach, ableEach
 -- ---- atoms
 
 pub data Atom : Type 0 where
-  unsigned : ℕ → Atom  -- a number of so many bytes
-  signed : ℕ → Atom  -- the same, in two's complement
+  unsigned : ℕ → Atom  -- a number of that many bytes
+  signed : ℕ → Atom  -- a signed number of that many bytes, in two's complement
   oneOf : List ℕ → Atom  -- a byte that is one of these
   text : Atom  -- a string: bytes up to its zero byte
   value : Atom  -- a signed 32-bit length and that many bytes; -1 is NULL and has none
@@ -159,7 +160,7 @@ most signedCount = 32767
 
 pub data Field : Type 0 where
   one : Atom → Field  -- an atom
-  counted : Count → Item → Field  -- a count, and so many items
+  counted : Count → Item → Field  -- a count, and that many items
   ended : Item → Field  -- items, and a zero byte in place of a further one
 
 abbrev pub Content : Field → Type 0

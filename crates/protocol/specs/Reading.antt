@@ -84,7 +84,7 @@ unfoldable pub passItems : Rules → Item → ℕ → List ℕ → ℕ → Read 
 passItems rules i zero f p = got tt p
 passItems rules i (suc n) f p = andThen (readItem rules i f p) (λ s q. passItems rules i n f q)
 
--- a count is refused when negative, or when so many of the smallest elements exceed the bytes left after it
+-- a count is refused when negative, or when that many of the smallest elements exceed the bytes left after it
 unfoldable pub countAt : ℕ → ℤ → List ℕ → ℕ → ℕ → Read ListSlot
 countAt least (pos n) f p q = cond (leb (n * least) (length f - q)) (got (record { start = q; count = n }) q) (bad badCount p)
 countAt least (negsuc n) f p q = bad badCount p
@@ -100,7 +100,9 @@ readCounted rules k i f p = andThen (readCount k (itemLeast i) f p) (λ l q. and
 -- from p on are enough
 unfoldable pub endedFrom : Rules → Item → ℕ → List ℕ → ℕ → ℕ → Read ℕ
 endedFrom rules i zero f p n = bad cut p
-endedFrom rules i (suc turns) f p n = andThen (readNumber 1 f p) (λ b q. cond (eqb b 0) (got n q) (andThen (readItem rules i f p) (λ s e. endedFrom rules i turns f e (suc n))))
+endedFrom rules i (suc turns) f p n =
+    andThen (readNumber 1 f p)
+    (λ b q. cond (eqb b 0) (got n q) (andThen (readItem rules i f p) (λ s e. endedFrom rules i turns f e (suc n))))
 
 unfoldable pub readEnded : Rules → Item → List ℕ → ℕ → Read ListSlot
 readEnded rules i f p = andThen (endedFrom rules i (length f) f p 0) (λ n e. got (record { start = p; count = n }) e)

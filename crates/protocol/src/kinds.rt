@@ -1,6 +1,6 @@
 // The smallest length and the limit of each kind, in the order of docs/FORMAT.md 4. No other code writes them: it takes these names, and a contract
 // those of specs/Kinds.
-// Inner: for crates of this library alone (docs/CONTRACTS.md, "Inner functions").
+// Inner: for crates of this library alone (docs/INNER.md).
 
 pub const LARGE: u32 = 1048576;
 

@@ -17,7 +17,9 @@ use Rattle.row_fields.specs.declared.Pen.{Pen}
 
 -- a field's name stands in the run and, for the pass that measures, has no zero byte
 unfoldable pub passed : Bool → FieldDescription → List ℕ → Bool
-passed writing f run = leb (f .name .start + f .name .len) (length run) && cond writing true (noZero (take (f .name .len) (drop (f .name .start) run)))
+passed writing f run =
+    leb (f .name .start + f .name .len) (length run)
+    && cond writing true (noZero (take (f .name .len) (drop (f .name .start) run)))
 
 unfoldable pub named : FieldDescription → List ℕ → Bool
 named f run = passed false f run
@@ -36,7 +38,9 @@ stepPen c f run = record { at = after c f; ok = c .ok && passed (c .writing) f r
 -- a field is written where the pen writes, its name stands in the run and there is room
 unfoldable pub stepOut : Pen → FieldDescription → List ℕ → List ℕ → List ℕ
 stepOut c f run out =
-    cond (c .writing && (passed (c .writing) f run && leb (after c f) (length out))) (write out (c .at) (itemBytes rowField (rowFieldGiven f run))) out
+    cond (c .writing && (passed (c .writing) f run && leb (after c f) (length out)))
+    (write out (c .at) (itemBytes rowField (rowFieldGiven f run)))
+    out
 
 unfoldable pub allPen : List FieldDescription → List ℕ → Pen → Pen
 allPen [] run c = c
@@ -52,7 +56,7 @@ allOut (f ∷ fs) run out c = allOut fs run (stepOut c f run out) (stepPen c f r
 abbrev pub blank : Pen
 blank = record { at = 0; ok = true; writing = false }
 
--- the answer to what was measured of so many fields; six bytes of the length come before the fields
+-- the answer to what was measured of `count` fields; six bytes of the length come before the fields
 abbrev pub answered : Pen → ℕ → ℕ → Encoded
 answered c count room = verdictOf (leb count 32767 && c .ok) large (min (c .at + 6) 18446744073709551615) 1 room
 

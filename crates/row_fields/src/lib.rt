@@ -1,5 +1,5 @@
 // A row's fields, each with its name in a lent run of bytes: one pass over them measures, and the same pass writes.
-// Inner: for crates of this library alone (docs/CONTRACTS.md, "Inner functions").
+// Inner: for crates of this library alone (docs/INNER.md).
 ghost use Prim.Native.Nat.{_+_, _≤_};
 ghost use mathlib.Core.List.{[], _++_, _∷_};
 ghost use mathlib.Core.Path.{_≡_};

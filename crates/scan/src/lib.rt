@@ -1,13 +1,13 @@
 // The scan for a zero byte. Whole blocks are looked at before single bytes, since the compiler makes vector compares of a loop with no
 // early exit; what is found is what the plain scan finds.
-// Inner: for crates of this library alone (docs/CONTRACTS.md, "Inner functions").
+// Inner: for crates of this library alone (docs/INNER.md).
 ghost use Prim.Native.Nat.{_+_, _≤_, _<_};
 ghost use mathlib.Core.Bool.{true};
 ghost use mathlib.Core.Path.{_≡_};
 ghost use lib.ListN.{length};
 ghost use Rattle.scan.specs.Zero.{Passed, zeroFrom};
 
-// Whether none of so many bytes is zero.
+// Whether none of the `width` bytes from i on is zero.
 fn clear(s: &[u8], i: usize, width: usize) -> bool
     requires { ⌜ i + width ≤ length (now s) ⌝ }
     ensures { λ r. ⌜ (r ≡ true → Passed (now (s .entry)) i (i + width)) ⌝ }
@@ -23,7 +23,7 @@ fn clear(s: &[u8], i: usize, width: usize) -> bool
     r
 }
 
-// Past so many bytes, if they are there and none is zero.
+// Past `width` bytes, if they are there and none is zero.
 fn pass(s: &[u8], i: usize, width: usize) -> usize
     requires { ⌜ i ≤ length (now s) ⌝ }
     ensures { λ r. ⌜ Passed (now (s .entry)) i r ⌝ }
@@ -34,7 +34,7 @@ fn pass(s: &[u8], i: usize, width: usize) -> usize
     if clear(s, i, width) { i + width } else { i }
 }
 
-// Past blocks of so many bytes, up to one that holds a zero.
+// Past blocks of `width` bytes, up to one that holds a zero.
 fn pass_blocks(s: &[u8], from: usize, width: usize) -> usize
     requires { ⌜ (from ≤ length (now s)) × (0 < width) ⌝ }
     ensures { λ r. ⌜ Passed (now (s .entry)) from r ⌝ }

@@ -4,7 +4,7 @@ use crate::hex;
 use crate::hex::ROOM;
 use protocol::Decoded;
 
-// What decode answers of a frame of so many bytes. A whole record has consumed them all.
+// What decode answers of a frame that is cut. A whole record has consumed all its bytes.
 enum Verdict {
     Whole,
     Strange(usize),
@@ -90,7 +90,7 @@ fn with_length(frame: [u8; ROOM], place: usize, length: usize) -> [u8; ROOM]
     frame
 }
 
-// A frame cut to so many bytes. In modes 0 and 1 a type byte stands before the length word, which does not count it.
+// A frame cut to `total` bytes, with the length that says so. In modes 0 and 1 a type byte stands before the length word, which does not count it.
 fn mended(mode: u8, frame: [u8; ROOM], total: usize) -> [u8; ROOM]
     requires { ⌜ 0 < total ⌝ }
 {

@@ -64,7 +64,7 @@ pub fn write_list(mode: u8, buf: &[u8], list: usize) {
     }
 }
 
-// The second form's answer to each, between marks.
+// What the form with a stand-in answers of each element, between marks.
 pub fn write_values(mode: u8, buf: &[u8], list: usize) {
     let mut number: usize = 0;
     while number < ROOM {

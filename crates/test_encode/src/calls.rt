@@ -12,7 +12,7 @@ use protocol::Span;
 use protocol::data::FieldDescription;
 use test_cases::write;
 
-// A field that names its column so, with numbers whose bytes differ.
+// A field with this name in the run, and with numbers whose bytes differ.
 fn field(start: usize, len: usize) -> FieldDescription {
     let name = Span { start, len };
     FieldDescription {
@@ -26,7 +26,7 @@ fn field(start: usize, len: usize) -> FieldDescription {
     }
 }
 
-// The first numbers; none, where there are not so many.
+// The first `count` numbers; none, where there are fewer.
 fn first_words(words: &[u32], count: usize) -> &[u32] {
     if words.len() < count {
         return &words[0..0];
@@ -114,8 +114,8 @@ fn listed(
     )
 }
 
-// The case's call, with so much of the arrays as it says: of its encoder, or of the boundary's function. That one takes a row's fields as a
-// slice, which would be walked by hand here, so a row goes to its encoder both times.
+// The case's call, with as many bytes and numbers of the arrays as it says: of its encoder, or of the boundary's function. The boundary takes a
+// row's fields as a slice, which would be walked by hand here, so a RowDescription goes to its encoder both times.
 pub fn call<'a>(
     by_boundary: bool,
     case: Case,

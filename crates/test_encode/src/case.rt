@@ -104,13 +104,13 @@ pub fn is_error(kind: usize) -> bool {
     (kind == 22) | (kind == 23)
 }
 
-// Whether a byte is given so often, and nothing else but the section BYTE.
+// Whether the line gives a byte and how often, and nothing else but the section BYTE.
 fn is_repeated(case: Case) -> bool {
     let most = (case.len <= MANY) | (!has_list(case.kind) & (case.len <= ROOM));
     (case.size_count == 4) & (case.start < 256) & most & (case.section <= BYTE)
 }
 
-// Whether a line that was read is a case: its kind has so many sizes.
+// Whether a line that was read is a case: it has as many sizes as its kind takes.
 pub fn is_whole(case: Case) -> bool {
     let count = case.size_count;
     let row = case.kind == ROW_DESCRIPTION;
@@ -164,7 +164,7 @@ fn with_letter(mut case: Case, letter: u8) -> Case {
     case
 }
 
-// Whether a section that has so many numbers takes this one. Of a type's numbers half are below zero, if it is signed: of 256, n fits
+// Whether a section that has `count` numbers takes this one too. Of a type's numbers half are below zero, if it is signed: of 256, n fits
 // where n / 2 < 128, and -n where n - 1 < 128.
 fn fits(section: usize, count: usize, negative: bool, size: usize) -> bool {
     let half = if negative {

@@ -37,8 +37,8 @@ fn times(a: u32, b: u32) -> usize {
     a as usize * b as usize
 }
 
-// So many words, lengths and formats, with the joined bytes that the lengths add up to, and an error's codes; or, where the kind has no list,
-// bytes.
+// How much is given: `len` words, lengths and formats, with the joined bytes that the lengths add up to, and an error's codes; or, where the
+// kind has no list, `len` bytes.
 fn counted(mut case: Case) -> Case {
     let len = case.len;
     if case::has_list(case.kind) {

@@ -102,7 +102,7 @@ fn first_of(input: &[u8; ROOM], count: usize) -> &[u8] {
     decode::part(input, 0, count)
 }
 
-// A digit for the mode, and then the same byte over and over: so many in all.
+// A digit for the mode, and then one byte over and over: `count` bytes in all.
 fn print_same(digit: u8, byte: u8, count: usize) {
     let mut input = full(byte);
     input[0] = digit;

@@ -47,7 +47,7 @@ fn write_in(codes: &[u8; COUNT], lengths: &[u32; COUNT], joined: &[u8; COUNT], o
     write(b" spare bytes at the end\n");
 }
 
-// The same in an output of so many bytes.
+// The error, written into an output of `size` bytes.
 fn write_of(codes: &[u8; COUNT], lengths: &[u32; COUNT], joined: &[u8; COUNT], size: usize) {
     let mut out = fields::spare();
     if size <= ROOM {

@@ -206,7 +206,7 @@ module _ (callee : Name) (τ : Ty) (R : RattleType) (Claim : List ℕ → ℕ �
     meets : Meets 𝓤 H A (calledEnded R .signature) (WpFn 𝓤 H (𝓣 .C) (𝓣 .Λ) (through callee τ)) (closing 𝓤 H A (calledEnded R) (calledClauses R Claim 𝓤))
     meets = walk-meets 𝓤 H A (calledEnded R) (stayed R) W (goes-none-slice 𝓤 H A W 1 (0 ∷ []) tt (plain (λ _. u8)) yes, (goes-none 𝓤 H A W 1 (λ _. usize) yes (λ κs x f. refl), tt)) (calledClauses R Claim 𝓤) (WpFn 𝓤 H (𝓣 .C) (𝓣 .Λ) (through callee τ)) (WpFn-mono 𝓤 H (W .laws) 𝓣 (through callee τ)) through-walks
 
--- the same over the machine's tables, with what is proved of `new` and `to`
+-- `meets` over the machine's tables, with what is proved of `new` and `to`
 module _ (callee : Name) (τ : Ty) (R : RattleType) (Claim : List ℕ → ℕ → R .Denot → Type 0) {M : Type 1} (𝓤 : URA M) (H : Heap 𝓤) (𝓜 : Model 𝓤 H) (𝓖 : GhostRules 𝓤 H) (𝓡 : Running 𝓤 H 𝓜) (typed : Typed τ R) where
   pub through-meets : (env : Env) → env new-def.name ≡ new-def.routine → env to-def.name ≡ to-def.routine → Triple 𝓤 (tables 𝓤 H 𝓜 𝓡 env .C callee) (Reads 𝓤 H (𝓖 .A) R Claim)
       → Meets 𝓤 H (𝓖 .A) (calledEnded R .signature) (WpFn 𝓤 H (tables 𝓤 H 𝓜 𝓡 env .C) (tables 𝓤 H 𝓜 𝓡 env .Λ) (through callee τ)) (closing 𝓤 H (𝓖 .A) (calledEnded R) (calledClauses R Claim 𝓤))

@@ -41,7 +41,7 @@ fn answer_in(buf: &[u8], starts: &mut [usize], lengths: &mut [i32]) {
     write_lengths(lengths);
 }
 
-// Lists of so many entries.
+// A row, read into lists of `start_count` and `length_count` entries.
 pub fn answer(buf: &[u8], start_count: usize, length_count: usize) {
     let mut starts = STARTS;
     let mut lengths = LENGTHS;

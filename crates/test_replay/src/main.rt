@@ -10,10 +10,10 @@ use libc::STDIN_FILENO;
 use test_cases::write;
 use test_cases::write_number;
 
-// The list is read in so many pieces of 65,536 letters, more than it has.
+// How many pieces of 65,536 letters are read: more than the list has.
 const PIECES: usize = 32;
 
-// More than it has letters.
+// More letters than the list has.
 const MOST: usize = 2097152;
 
 // Where an answer's status, bytes consumed and kind stand, and the status of a refusal.

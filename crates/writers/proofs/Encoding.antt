@@ -60,7 +60,7 @@ framed {d} {mid} {left} {n} k c h b e =
     let w : left ≡ write d 0 (frame typed k c) = rw f ((h then b) .bytes) in
     record { bytes = λ x is. w ∙ ap (λ (y : Contents k). write d 0 (frame typed k y)) (only is) }
 
--- the same, by writers that look for their room
+-- the head and then the body, by writers that look for their room
 pub framed-put : {d mid left : List ℕ} {n at next size : ℕ} (k : Kind) (c : Contents k)
     → Put (leb 5 n && leb n largeFrame) d 0 (header typed (k .tag) (n - 5)) 5 mid at → Fits mid at (bodyBytes k c) size left next → n ≡ 5 + size
     → n ≤ length d → n ≤ largeFrame → Framed typed k (some c) d left
@@ -198,7 +198,7 @@ module _ (m : Mode) (k : Kind) (c : Contents k) {n room : ℕ} (able : allAble (
   unfolding encodedBy
   enough h = record { answer = rw (able, small, size, le-ltb room n h) refl }
 
--- ---- the same for frames with a type byte, in plain numbers
+-- ---- the answer to a frame with a type byte, in plain numbers
 
 -- what is to be known of a kind's arguments: its limit, whether they can be written, and how many bytes their body has
 pub record Measured (m : Mode) (k : Kind) (given : Option (Contents k)) (most : ℕ) (can : Bool) (n : ℕ) : Type 0 where

@@ -78,7 +78,7 @@ over d p (x ∷ xs) (suc k) =
     set-before (set d p x) (p + 1) p x (take k xs) (omega arith) ∙ ap (λ (l : List ℕ). write l (p + 1) (take k xs)) (set-twice d p x) in
     rw e (over (set d p x) (p + 1) xs k)
 
--- the first i bytes and then so many from i on
+-- the first i bytes, and then n bytes from i on
 parted : (d s : List ℕ) (at i n : ℕ) → i ≤ length s → write (write d at (take i s)) (at + i) (take n (drop i s)) ≡ write d at (take (i + n) s)
 parted d s at i n h =
     let e : at + i ≡ at + length (take i s) = omega (arith, length-take-le i s h) in

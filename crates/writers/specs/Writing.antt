@@ -23,7 +23,8 @@ pub record Wrote (d : List ℕ) (p : ℕ) (xs : List ℕ) (n : ℕ) (out : List 
   pub size : length xs ≡ n
   pub place : next ≡ p + n
 
--- what a writer of the n bytes xs does: it writes them from p on where it may and there is room, else nothing. near follows, and spares callers the cases
+-- what a writer of the n bytes xs does: it writes them from p on where it may and there is room, else nothing. near follows, and spares callers the
+-- cases
 pub record Put (may : Bool) (d : List ℕ) (p : ℕ) (xs : List ℕ) (n : ℕ) (out : List ℕ) (next : ℕ) : Type 0 where
   pub fits : may ≡ true → p + n ≤ length d → Wrote d p xs n out next
   pub short : may && leb (p + n) (length d) ≡ false → (out ≡ d) × (next ≡ p)

@@ -1,6 +1,6 @@
 // Writers of the fields of a frame: each writes at a place of the output and answers the place after it, or writes nothing and answers
 // the place that it was given. And what comes before any write: sizes that cannot wrap, the scan for zero bytes, and the answer.
-// Inner: for crates of this library alone (docs/CONTRACTS.md, "Inner functions").
+// Inner: for crates of this library alone (docs/INNER.md).
 pub mod errors;
 pub mod values;
 
@@ -51,7 +51,7 @@ fn store_word(out: &mut [u8], at: usize, x: u32) -> usize
     store_byte(out, at, (x % 256) as u8)
 }
 
-// The same four bytes in the other order: a byte swap.
+// A number's four bytes in the other order: a byte swap.
 fn turned(x: u32) -> u32
     ensures { λ r. ⌜ r ≡ x % 256 * 16777216 + x / 256 % 256 * 65536 + x / 65536 % 256 * 256 + x / 16777216 ⌝ }
 {
@@ -118,7 +118,7 @@ fn store_each(out: &mut [u8], at: usize, s: &[u8]) -> usize
     p
 }
 
-// So many bytes of s at once. All are read before any is stored: the compiler then needs no test whether the two slices meet.
+// `width` bytes of s at once. All are read before any is stored: the compiler then needs no test whether the two slices meet.
 fn store_block(out: &mut [u8], at: usize, s: &[u8], from: usize, width: usize) -> usize
     requires { ⌜ (at + width ≤ length (now out)) × (from + width ≤ length (now s)) × (width ≤ 64) ⌝ }
     ensures { λ r. ⌜ Wrote (now (out .entry)) at (take width (drop from (now (s .entry)))) width (now (out .exit)) r ⌝ }
@@ -128,7 +128,7 @@ fn store_block(out: &mut [u8], at: usize, s: &[u8], from: usize, width: usize) -
     store_each(out, at, &block[..width])
 }
 
-// The first and the last bytes, so many of each: they may meet.
+// The first `width` bytes and the last `width`: they may meet.
 fn store_ends(out: &mut [u8], at: usize, s: &[u8], width: usize) -> usize
     requires { ⌜ (at + length (now s) ≤ length (now out)) × (width ≤ length (now s)) × (length (now s) ≤ width + width) × (width ≤ 64) ⌝ }
     ensures { λ r. ⌜ Wrote (now (out .entry)) at (now (s .entry)) (length (now (s .entry))) (now (out .exit)) r ⌝ }
@@ -248,7 +248,7 @@ fn store_halves(out: &mut [u8], at: usize, xs: &[i16]) -> usize
     p
 }
 
-// The same, with their count before them.
+// Oids and formats, with their count before them.
 fn store_oids(out: &mut [u8], at: usize, xs: &[u32]) -> usize
     requires { ⌜ (at + 4 * length (now xs) + 2 ≤ length (now out)) × (length (now xs) ≤ 32767) ⌝ }
     ensures { λ r. ⌜ Wrote (now (out .entry)) at (bytes oids (items (now (xs .entry)))) (2 + 4 * length (now (xs .entry))) (now (out .exit)) r ⌝ }

@@ -1,4 +1,4 @@
--- `frames::print` is safe and ends: so many pages at most.
+-- `frames::print` is safe and ends: it prints at most two pages more than the input has bytes.
 use Prim.Native.Nat.{_-_}
 use borrow.Author.Needs.{needs}
 use Rattle.frames.proofs.print.Statement.{statement}

@@ -1,4 +1,4 @@
--- `test_listing::print` is safe and ends: so many pages at most.
+-- `test_listing::print` is safe and ends: it prints at most two pages more than the input has bytes.
 use Prim.Native.Nat.{_-_}
 use borrow.Author.Needs.{needs}
 use Rattle.test_listing.proofs.print.Statement.{statement}

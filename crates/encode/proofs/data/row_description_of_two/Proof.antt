@@ -1,4 +1,4 @@
--- `encode::data::row_description_of_two` meets its contract: the walk of a door, for an array of 2.
+-- `encode::data::row_description_of_two` meets its contract: the walk of Door.antt, for an array of 2.
 use contract.Running.{givenOf, tables, tablesOf}
 use denote.Triple.Spec.{tripleOf}
 use denote.Triple.Table.{entered, cited}

@@ -1,4 +1,4 @@
--- `test_decode::elements::write_values` is safe and ends: there is room for so many elements and no more.
+-- `test_decode::elements::write_values` is safe and ends: it asks for at most as many elements as a frame has room for.
 use borrow.Author.Needs.{needs}
 use Prim.Native.Nat.{_-_}
 use Rattle.test_decode.proofs.elements.write_values.Statement.{statement}

@@ -1,0 +1,117 @@
+//! Frames that are made: every short one, random ones of every kind, and sizes around the limits.
+
+use super::contents::{content, frame, misgiven, spoiled, stretched};
+use super::damaged::{around, with_length};
+use super::Rng;
+use crate::judging::Run;
+use crate::model::{Framing, Kind, KINDS};
+
+/// The bytes that short frames are made of, the most telling first.
+pub const ALPHABET: [u8; 6] = [0, 6, 255, 5, 1, b'S'];
+
+/// As many of them as make fewer than half of the cases.
+pub fn alphabet(count: u64) -> &'static [u8] {
+    let typed = KINDS.iter().filter(|k| k.framing() == Framing::Typed).count() as u64;
+    let letters = (3..=6).rev().find(|n| typed * (*n as u64).pow(7) * 6 / 5 < count / 2).unwrap_or(3);
+    &ALPHABET[..letters]
+}
+
+/// Every frame of up to 8 bytes whose first is a type byte of the mode and whose others are of the alphabet.
+pub fn exhaustive(run: &mut Run, alphabet: &[u8]) {
+    run.from("every frame of up to 8 bytes over a small alphabet");
+    for k in KINDS.iter().filter(|k| k.framing() == Framing::Typed) {
+        for n in 0..=7u32 {
+            for i in 0..(alphabet.len() as u64).pow(n) {
+                let mut buf = vec![k.tag];
+                let mut i = i;
+                for _ in 0..n {
+                    buf.push(alphabet[(i % alphabet.len() as u64) as usize]);
+                    i /= alphabet.len() as u64;
+                }
+                run.decode(k.mode, &buf);
+            }
+        }
+    }
+}
+
+/// Every byte alone and with a second in every mode, every mode number, and the short beginnings of mode 2.
+pub fn bytes_alone(run: &mut Run) {
+    run.from("one and two bytes, every mode");
+    for mode in 0..=255u8 {
+        run.decode(mode, &[]);
+        let bytes: Vec<u8> = if mode < 6 { (0..=255).collect() } else { vec![0, b'S', 255] };
+        for b in bytes {
+            run.decode(mode, &[b]);
+            for second in [0, 4, 255] {
+                run.decode(mode, &[b, second]);
+                run.decode(mode, &[b, 0, 0, 0, second]);
+            }
+        }
+    }
+}
+
+/// One content: written as it is, spoiled and with arguments that do not fit; and its frame, whole and damaged, before another.
+pub fn random(run: &mut Run, r: &mut Rng) {
+    let kind = r.pick(&KINDS);
+    let c = content(r, kind);
+    run.encode(&c);
+    let f = frame(&c);
+    run.encode(&spoiled(r, &c));
+    run.encode_ours(&misgiven(r, &c));
+    let other = r.pick(&KINDS);
+    let next = frame(&content(r, other));
+    let all = f.len() <= 40 && r.one_in(4);
+    around(run, r, kind.mode, &f, &next, all);
+}
+
+/// Frames whose length is 1 below, at and 1 above each limit of ours and of the Rust's small ones.
+pub fn boundaries(run: &mut Run, r: &mut Rng, turns: usize) {
+    run.from("sizes around each limit");
+    for _ in 0..turns {
+        for k in KINDS.iter().filter(|k| k.framing() != Framing::Bare) {
+            let mut c = content(r, k);
+            for _ in 0..20 {
+                if stretched(&c, 0).is_some() {
+                    break;
+                }
+                c = content(r, k);
+            }
+            let f = frame(&c);
+            let length = (f.len() - k.framing().length_at()) as i64;
+            for target in [k.limit - 1, k.limit] {
+                // lists step by their element's size and may pass the limit's last bytes
+                if let Some(c) = stretched(&c, (target - length) as usize) {
+                    run.encode(&c);
+                    if let Some(longer) = stretched(&c, 1) {
+                        run.encode(&longer);
+                    }
+                    one_byte_off(run, k.mode, &frame(&c));
+                }
+            }
+            headers(run, k, &f);
+        }
+    }
+}
+
+/// A frame as it is, and with one byte or a length of one more or less.
+fn one_byte_off(run: &mut Run, mode: u8, f: &[u8]) {
+    run.decode(mode, f);
+    run.decode(mode, &f[..f.len() - 1]);
+    run.decode(mode, &with_length(mode, f, 1));
+    run.decode(mode, &with_length(mode, f, -1));
+    let longer = [f, &[0]].concat();
+    run.decode(mode, &longer);
+    run.decode(mode, &with_length(mode, &longer, 1));
+}
+
+/// The header of a frame alone, with lengths around every limit of either side.
+fn headers(run: &mut Run, k: &Kind, f: &[u8]) {
+    let at = k.framing().length_at();
+    for limit in [0i64, 4, k.smallest, 8_192, 10_000, 30_000, 1_048_576, 0x3fff_fffe, i32::MAX as i64, -1, i32::MIN as i64] {
+        for by in -1..=1 {
+            let mut h = f[..k.framing().body_at()].to_vec();
+            h[at..at + 4].copy_from_slice(&((limit + by) as i32).to_be_bytes());
+            run.decode(k.mode, &h);
+        }
+    }
+}

@@ -1,0 +1,270 @@
+//! Which entry of docs/DIFFERENCES.md a difference falls under. A difference under no entry fails the run.
+
+use crate::content::{Content, Field};
+use crate::model::{self, framing, kind_of, numbered, Answer, Kind, Part};
+use crate::oracle::Seen;
+
+#[derive(Clone, PartialEq, Eq, Debug)]
+pub enum Verdict {
+    /// The same message with the same fields and bytes consumed; or both wait.
+    Equal,
+    /// Both refuse, for the same reason.
+    BothRefuse,
+    /// A difference with an entry.
+    Under(&'static str),
+    Unexplained(&'static str),
+}
+use Verdict::*;
+
+/// The entries, in the order of docs/DIFFERENCES.md.
+#[rustfmt::skip]
+pub const ENTRIES: [&str; 20] = [
+    "mode", "one-byte", "left-out", "copy-fail-from-backend", "answer-byte", "negative-length", "short-length", "limits", "signed-count",
+    "count", "missing-zero", "past-the-frame", "cut", "bytes-left", "target", "value-length", "data-row", "error-fields", "cancel-key", "text",
+];
+
+/// The Rust's limit of a kind's length: large where ours is, and for each side its own. What both sides send has the frontend's.
+fn rust_limit(kind: &Kind) -> i64 {
+    let from_backend = numbered(kind.number).mode == 1;
+    match (from_backend, kind.has_large_limit()) {
+        (true, true) => i32::MAX as i64,
+        (true, false) => 30_000,
+        (false, true) => 0x3fff_fffe,
+        (false, false) => 10_000,
+    }
+}
+
+/// The Rust reads a count of oids, and each count of Bind, as an unsigned number. A DataRow's values it does not read.
+fn counts_are_unsigned(kind: &Kind) -> bool {
+    kind.has(&[Part::Oids]) || (kind.has(&[Part::Values]) && !kind.is_data_row())
+}
+
+/// One input, and what the Rust answers of it.
+#[derive(Clone, Copy)]
+pub struct Case<'a> {
+    pub mode: u8,
+    pub buf: &'a [u8],
+    pub seen: &'a Seen,
+    pub consumed: usize,
+}
+
+impl Case<'_> {
+    fn took(&self) -> bool {
+        matches!(self.seen, Seen::Record(_))
+    }
+
+    fn took_up_to(&self, place: usize) -> bool {
+        self.took() && self.consumed == place
+    }
+
+    fn waits(&self) -> bool {
+        *self.seen == Seen::NeedMore
+    }
+
+    fn panicked(&self) -> bool {
+        *self.seen == Seen::Panicked
+    }
+
+    fn refused(&self, error: &str) -> bool {
+        refused(self.seen, error)
+    }
+
+    /// What the Rust may do with bytes that it reads past a check that it has not: take them, panic, or find a count too large.
+    fn wild(&self) -> bool {
+        self.took() || self.panicked() || self.refused("InvalidElementCount") || *self.seen == Seen::NotCalled
+    }
+
+    /// The kind of a frame that has its header.
+    fn kind(&self) -> &'static Kind {
+        kind_of(self.mode, self.buf).expect("a kind of the mode")
+    }
+
+    fn length_at(&self) -> usize {
+        framing(self.mode).expect("a mode of frames").length_at()
+    }
+
+    fn length(&self) -> i64 {
+        let at = self.length_at();
+        i32::from_be_bytes(self.buf[at..at + 4].try_into().unwrap()) as i64
+    }
+
+    /// Where the frame ends by its length word.
+    fn end(&self) -> usize {
+        self.length() as usize + self.length_at()
+    }
+
+    /// Whether bytes stand behind the frame.
+    fn followed(&self) -> bool {
+        self.buf.len() > self.end()
+    }
+}
+
+fn when(holds: bool, then: Verdict, what: &'static str) -> Verdict {
+    match holds {
+        true => then,
+        false => Unexplained(what),
+    }
+}
+
+fn refused(seen: &Seen, error: &str) -> bool {
+    matches!(seen, Seen::Refused(e) if *e == error)
+}
+
+/// The Rust's answer beside ours, which is the model's.
+pub fn judge(case: &Case, ours: &Answer) -> Verdict {
+    match ours {
+        Answer::Record(..) => taken(case, ours),
+        Answer::NeedMore => when(case.waits() && case.consumed == 0, Equal, "need-more here alone"),
+        Answer::Refused(1, _) => Under("mode"),
+        Answer::Refused(2, _) => unknown(case),
+        Answer::Refused(3, _) => too_short(case),
+        Answer::Refused(4, _) => too_long(case),
+        Answer::Refused(..) if case.kind().is_data_row() => when(unread(case), Under("data-row"), "a DataRow"),
+        Answer::Refused(5, place) => count(case, *place),
+        Answer::Refused(6, place) => cut(case, *place),
+        Answer::Refused(7, _) => not_allowed(case),
+        Answer::Refused(8, place) => left_over(case, *place),
+        Answer::Refused(..) => Unexplained("a refusal of no known number"),
+    }
+}
+
+fn taken(case: &Case, ours: &Answer) -> Verdict {
+    let Seen::Record(theirs) = case.seen else { return Unexplained("a well-formed frame that the Rust does not take") };
+    if !matches!(ours, Answer::Record(_, n, _) if *n == case.consumed) {
+        return Unexplained("other bytes consumed");
+    }
+    let ours = model::content(ours, case.buf).unwrap().unread();
+    if *theirs == ours {
+        return Equal;
+    }
+    when(*theirs == ours.lossy(), Under("text"), "other fields")
+}
+
+fn unknown(case: &Case) -> Verdict {
+    match case.mode {
+        2 => when(case.refused("InvalidCancelRequest"), BothRefuse, "an unknown code"),
+        3 | 4 => when(case.waits(), Under("answer-byte"), "an unknown answer byte"),
+        _ if case.buf.len() == 1 => when(case.waits(), Under("one-byte"), "one byte of an unknown type"),
+        1 if case.buf[0] == b'f' => Under("copy-fail-from-backend"),
+        0 if b"pQX".contains(&case.buf[0]) => Under("left-out"),
+        1 if b"RSKv".contains(&case.buf[0]) => Under("left-out"),
+        _ => when(case.refused("InvalidMessageType"), BothRefuse, "an unknown type"),
+    }
+}
+
+fn too_short(case: &Case) -> Verdict {
+    if case.length() < 0 {
+        return when(case.refused("MessageTooLarge"), Under("negative-length"), "a negative length");
+    }
+    if case.buf.len() < case.end() {
+        return when(case.waits(), Under("short-length"), "a short length, incomplete");
+    }
+    if case.mode == 2 {
+        return when(case.refused("InvalidCancelRequest"), BothRefuse, "a short cancel request");
+    }
+    when(case.wild() || case.refused("InvalidTransactionStatus"), Under("short-length"), "a short length")
+}
+
+fn too_long(case: &Case) -> Verdict {
+    if case.length() > rust_limit(case.kind()) {
+        return when(case.refused("MessageTooLarge"), BothRefuse, "a length above both limits");
+    }
+    // As if there were no limit here, the two are to be alike, or to differ under another entry.
+    match judge(case, &model::decode_unlimited(case.mode, case.buf)) {
+        Unexplained(what) => Unexplained(what),
+        _ => Under("limits"),
+    }
+}
+
+/// A DataRow as the Rust keeps it: the frame's count and all bytes after it.
+fn unread(case: &Case) -> bool {
+    let count = i16::from_be_bytes([case.buf[5], case.buf[6]]);
+    let fields = vec![Field::Unread(count, case.buf[7..case.end()].to_vec())];
+    *case.seen == Seen::Record(Content { kind: case.kind().number, fields }) && case.consumed == case.end()
+}
+
+fn count(case: &Case, place: usize) -> Verdict {
+    if case.buf[place] >= 128 && counts_are_unsigned(case.kind()) {
+        return when(case.wild(), Under("signed-count"), "a negative count");
+    }
+    if case.refused("InvalidElementCount") {
+        return BothRefuse;
+    }
+    if case.followed() {
+        return when(case.wild(), Under("past-the-frame"), "a count past the frame");
+    }
+    when(case.panicked(), Under("count"), "a count")
+}
+
+fn cut(case: &Case, place: usize) -> Verdict {
+    if case.kind().has(&[Part::Errors]) {
+        return match case.followed() {
+            true => when(case.wild(), Under("past-the-frame"), "an error's fields past the frame"),
+            false => {
+                let fell = case.panicked() || *case.seen == Seen::NotCalled;
+                when(fell, Under("error-fields"), "an error's fields with no zero byte")
+            }
+        };
+    }
+    match model::fault(case.mode, case.buf) {
+        "string" if case.buf[place..].contains(&0) => when(case.wild(), Under("past-the-frame"), "a string past the frame"),
+        "string" => when(case.wild(), Under("missing-zero"), "a string with no zero byte"),
+        _ if case.followed() => when(case.wild(), Under("past-the-frame"), "a number or value past the frame"),
+        _ => when(case.panicked(), Under("cut"), "a number or value that is cut"),
+    }
+}
+
+fn not_allowed(case: &Case) -> Verdict {
+    if case.kind().has(&[Part::Target]) {
+        return when(case.took(), Under("target"), "a target byte");
+    }
+    if case.kind().has(&[Part::Status]) {
+        return when(case.refused("InvalidTransactionStatus"), BothRefuse, "a status byte");
+    }
+    when(case.wild(), Under("value-length"), "a value's length below -1")
+}
+
+fn left_over(case: &Case, place: usize) -> Verdict {
+    if case.mode == 2 {
+        return when(case.took_up_to(place) || case.refused("InvalidSecretKey"), Under("cancel-key"), "a longer key");
+    }
+    when(case.took_up_to(place), Under("bytes-left"), "bytes left over")
+}
+
+// ---- encoding
+
+/// The entries of encoding.
+pub const ENCODE_ENTRIES: [&str; 5] = ["encode-limits", "encode-zero-in-text", "encode-target", "encode-zero-code", "encode-count"];
+
+/// What the model and the Rust write of one content.
+pub fn judge_encoded(c: &Content, model: &Result<Vec<u8>, u8>, seen: &Result<Vec<u8>, Seen>) -> Verdict {
+    match model {
+        Ok(frame) => when(seen.as_ref() == Ok(frame), Equal, "other bytes written"),
+        Err(4) => match seen {
+            Err(e) => when(refused(e, "MessageTooLarge"), BothRefuse, "an encoder's refusal"),
+            Ok(_) => Under("encode-limits"),
+        },
+        Err(10) => {
+            let wrote = seen.is_ok() || matches!(seen, Err(e) if refused(e, "MessageTooLarge"));
+            when(wrote, Under(unwritable(c)), "a message that cannot be written")
+        }
+        Err(_) => Unexplained("an encoder's refusal of no known number"),
+    }
+}
+
+/// Why a content cannot be written: the cases of refusal 10 (docs/FORMAT.md 9) that a content can have.
+fn unwritable(c: &Content) -> &'static str {
+    for f in &c.fields {
+        match f {
+            Field::Text(t) if t.contains(&0) => return "encode-zero-in-text",
+            Field::RowFields(fields) if fields.iter().any(|f| f.name.contains(&0)) => return "encode-zero-in-text",
+            Field::Errors(es) if es.iter().any(|(_, t)| t.contains(&0)) => return "encode-zero-in-text",
+            Field::Errors(es) if es.iter().any(|(code, _)| *code == 0) => return "encode-zero-code",
+            _ => {}
+        }
+    }
+    match numbered(c.kind).has(&[Part::Target]) {
+        true => "encode-target",
+        false => "encode-count",
+    }
+}

@@ -1,0 +1,98 @@
+//! The parts of each frame that is taken: its elements by number, the items of its list one after another, and a row in one pass.
+
+use super::Run;
+use crate::model::{self, numbers, Answer, Element, Part};
+use crate::ours;
+
+/// The model reads each element from the list's start: no longer lists are read whole.
+const READ_WHOLE: usize = 300;
+
+impl Run {
+    /// The elements of each list: all of a short one; of a long one the first, the last and some; and what is past the end.
+    pub(super) fn elements_of(&mut self, mode: u8, buf: &[u8], answer: &Answer) {
+        let counts: Vec<usize> = match answer {
+            Answer::Record(k, _, slots) => model::lists(k, slots).iter().map(|(_, _, n)| *n).collect(),
+            _ => vec![],
+        };
+        for list in 0..=counts.len() {
+            let n = counts.get(list).copied().unwrap_or(0);
+            let numbers: Vec<usize> = if n <= 8 { (0..=n).collect() } else { vec![0, 1, n / 2, n - 1, n, n + 1] };
+            for number in numbers {
+                self.elements += 1;
+                let expected = numbers::of_element(&model::element(mode, buf, list, number));
+                let got = ours::element(mode, buf, list, number);
+                if got != expected {
+                    self.fail("another element", mode, buf, format!("list {list} number {number}: ours {got:?}\n  model {expected:?}"));
+                }
+            }
+        }
+    }
+
+    /// The items of a list one after another, each at the place that the one before it told.
+    pub(super) fn items_of(&mut self, mode: u8, buf: &[u8], answer: &Answer) {
+        let Answer::Record(k, consumed, slots) = answer else { return };
+        // items of one size need no call; Bind's values come after its formats
+        let Some((part @ (Part::Values | Part::RowFields | Part::Errors), start, count)) = model::lists(k, slots).first().copied() else {
+            return;
+        };
+        if count > READ_WHOLE {
+            return;
+        }
+        let mut at = start;
+        for i in 0..count {
+            let element = model::element(mode, buf, 0, i);
+            let next = match &element {
+                Element::Value(start, len) => start + len,
+                Element::Field { name: (start, len), .. } => start + len + 19,
+                Element::ErrorField(_, start, len) => start + len + 1,
+                _ => at + 4,
+            };
+            let mut expected = numbers::of_element(&element);
+            expected[3] = next;
+            let got = ours::item(part, &buf[..*consumed], at);
+            if got != expected {
+                self.fail("another item", mode, buf, format!("at {at}: ours {got:?}\n  model {expected:?}"));
+            }
+            self.items += 1;
+            at = next;
+        }
+    }
+
+    /// A row in one pass, into slices that are long enough, one too short, and longer.
+    pub(super) fn row_of(&mut self, buf: &[u8], answer: &Answer) {
+        let count = match answer {
+            Answer::Record(k, _, slots) if k.is_data_row() => model::lists(k, slots)[0].2,
+            _ => 0,
+        };
+        if count > READ_WHOLE {
+            return;
+        }
+        self.rows += 1;
+        let entries: Vec<(usize, i32)> = (0..count)
+            .map(|i| match model::element(1, buf, 0, i) {
+                Element::Value(start, len) => (start, len as i32),
+                _ => (0, -1),
+            })
+            .collect();
+        let less = count.saturating_sub(1);
+        for room in [(count, count), (less, count), (count, less), (count + 2, count + 3)] {
+            self.row_into(buf, answer, &entries, room);
+        }
+    }
+
+    fn row_into(&mut self, buf: &[u8], answer: &Answer, entries: &[(usize, i32)], room: (usize, usize)) {
+        let (mut starts, mut lengths) = (vec![77; room.0], vec![-77; room.1]);
+        let (mut starts2, mut lengths2) = (starts.clone(), lengths.clone());
+        let got = ours::data_row(buf, &mut starts, &mut lengths);
+        let expected = numbers::of_row(answer, room.0.min(room.1));
+        if expected[0] == 0 {
+            for (i, (start, length)) in entries.iter().enumerate() {
+                (starts2[i], lengths2[i]) = (*start, *length);
+            }
+        }
+        if got != expected || starts != starts2 || lengths != lengths2 {
+            let theirs = format!("model {expected:?} {starts2:?} {lengths2:?}");
+            self.fail("another row", 1, buf, format!("ours {got:?} {starts:?} {lengths:?}\n  {theirs}"));
+        }
+    }
+}

@@ -1,0 +1,15 @@
+//! docs/FORMAT.md as a small program: what decode, an element call and an encoder answer.
+//! It is written from the document and from nothing else: neither the Rattle code nor its definitions nor the Rust.
+
+mod decode;
+mod elements;
+mod encode;
+mod frame;
+mod kinds;
+pub mod numbers;
+
+pub use decode::{decode, decode_unlimited, fault, Answer};
+pub use elements::{content, element, lists};
+pub use encode::{encode, given, Given, RowFieldGiven};
+pub use frame::Element;
+pub use kinds::{framing, kind_of, named, numbered, Framing, Kind, Part, KINDS, MOST_ELEMENTS, REFUSES, STATUSES, TARGETS};
