@@ -1,6 +1,10 @@
 -- A message's row, and what its record holds of each field: the inverse of a row's `message`. What is asked of a message by its kind (its name, its
 -- number, its lists) is asked of this.
+use Prim.Native.Nat.{ℕ}
+use mathlib.Core.Bool.{Bool}
 use mathlib.Core.List.{List}
+use lib.Dec.{eqb}
+use lib.ListN.{getD}
 use Rattle.protocol.specs.declared.Message.the-variants as M
 use Rattle.protocol.specs.declared.Message.{Message}
 use Rattle.protocol.specs.declared.response.GssEncResponse.the-variants as Gss
@@ -50,3 +54,11 @@ view (M.SslResponse Ssl.Accept) = is sslAccept tt
 view (M.SslResponse Ssl.Refuse) = is sslRefuse tt
 view (M.GssEncResponse Gss.Accept) = is gssAccept tt
 view (M.GssEncResponse Gss.Refuse) = is gssRefuse tt
+
+-- a kind's own number at the boundary, the first of its row's
+abbrev pub kindNumber : Kind → ℕ
+kindNumber k = getD (k .numbers) 0 0
+
+-- a message is of a kind: the number tells
+unfoldable pub isKind : Kind → Message → Bool
+isKind k m = eqb (kindNumber k) (kindNumber (view m .kind))
