@@ -1,3 +1,3 @@
 pub mod Reached
-pub mod Rows
+pub mod Fitting
 pub mod Calls

@@ -5,13 +5,9 @@ use mathlib.Core.Option.{Option, some, none}
 use mathlib.Core.Path.{_≡_}
 use lib.ListN.{length, take, drop}
 use Rattle.protocol.specs.declared.Message.{Message}
-use Rattle.protocol.specs.Kinds.{Kind, Mode, modes, find}
+use Rattle.protocol.specs.Kinds.{Kind}
 use Rattle.protocol.specs.Names.{nameOf, lettersOf}
-use Rattle.protocol.specs.Views.{kindNumber}
-
-abbrev rowsOf : List Mode → List Kind
-rowsOf [] = []
-rowsOf (m ∷ ms) = m .kinds ++ rowsOf ms
+use Rattle.protocol.specs.Views.{rows, numbered}
 
 -- a name and a space, before the later ones; a number that no kind has ends the text
 abbrev nameThen : Option Kind → List ℕ → List ℕ
@@ -20,11 +16,11 @@ nameThen (some k) later = lettersOf (k .name) ++ 32 ∷ later
 
 abbrev namesFrom : ℕ → ℕ → List ℕ
 namesFrom zero n = []
-namesFrom (suc turns) n = nameThen (find kindNumber n (rowsOf modes)) (namesFrom turns (suc n))
+namesFrom (suc turns) n = nameThen (numbered n) (namesFrom turns (suc n))
 
 -- the names in the order of the kinds' numbers, which begin at 1
 unfoldable pub names : List ℕ
-names = namesFrom (length (rowsOf modes)) 1
+names = namesFrom (length rows) 1
 
 pub record NameAt (m : Message) (start len : ℕ) : Type 0 where
   pub within : start + len ≤ length names

@@ -12,7 +12,7 @@ use Rattle.protocol.specs.declared.response.SslResponse.the-variants as Ssl
 use Rattle.protocol.specs.declared.response.SslResponse.{SslResponse}
 use Rattle.protocol.specs.Kinds.{find, the-table}
 use Rattle.protocol.specs.Names.{nameOf, lettersOf}
-use Rattle.protocol.specs.Views.{view}
+use Rattle.protocol.specs.Views.{view, numbered}
 use Rattle.listing.specs.Names.{names, NameAt}
 use Rattle.listing.proofs.names.name_of.Statement.{statement}
 use Rattle.listing.proofs.names.name_of.Tie as tie
@@ -33,7 +33,7 @@ gss-name Gss.Accept = refl
 gss-name Gss.Refuse = refl
 
 pub name-of-spec : {M : Type 1} → statement M
-unfolding names find the-table view
+unfolding names numbered find the-table view
 name-of-spec =
     tie.close
     (tie.spec

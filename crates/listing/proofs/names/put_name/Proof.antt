@@ -2,17 +2,18 @@
 use native.Mathlib.Omega.{arith}
 use borrow.Author.Needs.{needs}
 use Rattle.protocol.specs.Kinds.{find, the-table}
+use Rattle.protocol.specs.Views.{numbered}
 use Rattle.listing.specs.Names.{names}
 use Rattle.listing.proofs.Writing.{same}
 use Rattle.listing.proofs.names.put_name.Statement.{statement}
 use Rattle.listing.proofs.names.put_name.Tie as tie
 
 put-part-requires : tie.Need-put-part-requires
-unfolding names find the-table
+unfolding names numbered find the-table
 put-part-requires c κs = let n = c .before .before .name-of .ensures in (n .within, omega (arith, n .short))
 
 returns : tie.Need-returns
-unfolding names find the-table
+unfolding names numbered find the-table
 returns c =
     let b = c .before .before in
     let n = b .before .before .before .name-of .ensures in
