@@ -13,6 +13,7 @@ use Rattle.protocol.specs.declared.Span.{Span}
 use Rattle.protocol.specs.Each.{leastOfEach}
 use Rattle.protocol.specs.Fields.{least}
 use Rattle.protocol.specs.Kinds.{Envelope, Kind, Mode, modes, IsIn, find, modeOf, kindIn, nullable, valueElement}
+use Rattle.protocol.specs.Views.{view}
 use Rattle.protocol.specs.WellFormed.{lengthOf}
 use Rattle.protocol.proofs.Find.{every, numberOf, tagOf}
 use Rattle.protocol.specs.Kinds.{the-table}
@@ -145,7 +146,7 @@ unfolding the-table valueElement
 all-hold = search (value-named, tt) depth 60 fits 5000
 
 pub table : Table modes
-unfolding the-table valueElement
+unfolding the-table valueElement view
 table = record {
   lines = refl;
   records = λ m i k j. in-all Holding (m .kinds) (in-all (λ (m : Mode). All Holding (m .kinds)) modes all-hold m i) k j;

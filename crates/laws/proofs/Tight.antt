@@ -35,6 +35,7 @@ use Rattle.codec.specs.declared.Value.the-variants as Va
 use Rattle.codec.specs.declared.Value.{Value}
 use Rattle.codec.specs.declared.Word.the-variants as W
 use Rattle.codec.specs.declared.Word.{Word}
+use Rattle.element.proofs.Told.{told-once}
 use Rattle.host.specs.Asked.{Asked, Answers}
 use Rattle.items.specs.Answers.{errorRead, fieldRead}
 use Rattle.items.specs.declared.data.FieldStep.the-variants as F
@@ -268,7 +269,7 @@ element = record {
   «element_by» = λ _ _ _ _ r s p q. p ∙ sym q;
   element = λ _ _ _ _ r s p q. p ∙ sym q;
   «value_or» = λ _ _ _ _ _ r s p q. p ∙ sym q;
-  «lists_of» = λ _ _ r s p q. p ∙ sym q;
+  «list_of» = λ _ _ r s p q. told-once r s (p ∙ sym q);
 }
 
 pub encode : EncodeTight

@@ -1,7 +1,6 @@
 -- A contract leaves one answer: what it says at two answers, and at two final buffers, makes them equal. Crate by crate, each public function's contract
 -- stands below with the values that lent bytes hold before the call, and x′ for what is left of the lent buffer x.
--- The exceptions: of a returned part (`decode::part`, `element::value_or`) a contract sees the contents alone; and `names::name_of` says which letters
--- a name has, not where in its text they stand.
+-- The exception: of a returned part (`decode::part`, `element::value_or`) a contract sees the contents alone.
 use mathlib.Core.Path.{_≡_}
 pub mod Protocol
 pub mod Scan

@@ -5,13 +5,14 @@ use mathlib.Core.Path.{_≡_}
 use lib.IntN.{ℤ}
 use Rattle.protocol.specs.Bytes.{bitsOf}
 use Rattle.protocol.specs.declared.List.{List as Slot}
+use Rattle.protocol.specs.declared.Message.the-variants as M
 use Rattle.protocol.specs.declared.Span.{Span}
 use Rattle.protocol.specs.declared.cancel.CancelRequest.{CancelRequest}
 use Rattle.protocol.specs.declared.extendedquery.Bind.{Bind}
 use Rattle.protocol.specs.declared.extendedquery.Execute.{Execute}
 use Rattle.protocol.specs.declared.extendedquery.Parse.{Parse}
 use Rattle.protocol.specs.declared.response.NotificationResponse.{NotificationResponse}
-use Rattle.host_layout.specs.LaidOut.{bindNumbers, list, needMoreOut, recordOut, refusedOut, signed, span}
+use Rattle.host_layout.specs.LaidOut.{list, needMoreOut, numbersOf, recordOut, refusedOut, signed, span}
 use Rattle.laws.specs.Tight.{Determines}
 
 pub record LayoutTight : Type 0 where
@@ -24,8 +25,8 @@ pub record LayoutTight : Type 0 where
   pub «one_list» : (kind : ℕ) (n : ℕ) (l : Slot) → Determines (λ (r : List ℕ). r ≡ recordOut n (kind ∷ list l))
   pub target : (kind : ℕ) (n : ℕ) («target_type» : ℕ) (name : Span) → Determines (λ (r : List ℕ). r ≡ recordOut n (kind ∷ «target_type» ∷ span name))
   pub copy : (kind : ℕ) (n : ℕ) (format : ℤ) (l : Slot) → Determines (λ (r : List ℕ). r ≡ recordOut n (kind ∷ signed format ++ list l))
-  pub parse : (n : ℕ) (m : Parse) → Determines (λ (r : List ℕ). r ≡ recordOut n (1 ∷ span (m .name) ++ span (m .query) ++ list (m .«type_oids»)))
-  pub bind : (n : ℕ) (m : Bind) → Determines (λ (r : List ℕ). r ≡ recordOut n (2 ∷ bindNumbers m))
-  pub execute : (n : ℕ) (m : Execute) → Determines (λ (r : List ℕ). r ≡ recordOut n (5 ∷ span (m .name) ++ signed (m .«max_rows»)))
-  pub notification : (n : ℕ) (m : NotificationResponse) → Determines (λ (r : List ℕ). r ≡ recordOut n (27 ∷ signed (m .pid) ++ span (m .channel) ++ span (m .payload)))
-  pub cancel : (n : ℕ) (m : CancelRequest) → Determines (λ (r : List ℕ). r ≡ recordOut n (28 ∷ signed (m .pid) ++ signed (m .«secret_key»)))
+  pub parse : (n : ℕ) (m : Parse) → Determines (λ (r : List ℕ). r ≡ recordOut n (numbersOf (M.Parse m)))
+  pub bind : (n : ℕ) (m : Bind) → Determines (λ (r : List ℕ). r ≡ recordOut n (numbersOf (M.Bind m)))
+  pub execute : (n : ℕ) (m : Execute) → Determines (λ (r : List ℕ). r ≡ recordOut n (numbersOf (M.Execute m)))
+  pub notification : (n : ℕ) (m : NotificationResponse) → Determines (λ (r : List ℕ). r ≡ recordOut n (numbersOf (M.NotificationResponse m)))
+  pub cancel : (n : ℕ) (m : CancelRequest) → Determines (λ (r : List ℕ). r ≡ recordOut n (numbersOf (M.CancelRequest m)))
