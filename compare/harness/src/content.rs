@@ -25,7 +25,7 @@ pub enum Field {
     Unread(i16, Vec<u8>),
 }
 
-/// A kind by its number at the library's boundary, and its fields from left to right.
+/// A kind by its number (the numbers of the rows, protocol/specs Kinds) and its fields from left to right.
 #[derive(Clone, PartialEq, Eq, Debug)]
 pub struct Content {
     pub kind: u8,

@@ -12,11 +12,11 @@ use Rattle.protocol.specs.Elements.{readItemAt, elementBy}
 use Rattle.protocol.specs.Fields.{AtomSlot, Item}
 use Rattle.protocol.specs.Reading.{Read, got, bad, andThen, readItem, passItems}
 use Rattle.protocol.proofs.Counts.{Steady, pass-steady}
-use Rattle.element.specs.declared.lists.Lists.the-variants as L
-use Rattle.element.specs.declared.lists.Lists.{Lists}
-use Rattle.element.specs.declared.lists.Sort.the-variants as S
-use Rattle.element.specs.declared.lists.Sort.{Sort}
-use Rattle.element.specs.Lists.{FitsAt, FitsSort, Fits}
+use Rattle.element.specs.declared.list.OneList.the-variants as L
+use Rattle.element.specs.declared.list.OneList.{OneList}
+use Rattle.element.specs.declared.list.Sort.the-variants as S
+use Rattle.element.specs.declared.list.Sort.{Sort}
+use Rattle.element.specs.OneList.{FitsAt, FitsSort, Fits}
 
 module _ (rules : Rules) (i : Item) (f : List ℕ) (p n : ℕ) where
   -- by a walk to q
@@ -39,8 +39,8 @@ module _ {X : Type 0} (rules : Rules) (i : Item) (f : List ℕ) (p n : ℕ) (mak
 
 -- ---- where the items of one size stand
 
-pub fits-at : (f : List ℕ) (l : ListSlot) (n : ℕ) (lists : Lists) (sort : Sort) → lists ≡ L.Is sort l → n < l .count → Fits f lists → FitsAt f (l .start) n sort
-fits-at f l n lists sort e h w = by sort (rw e at w)
+pub fits-at : (f : List ℕ) (l : ListSlot) (n : ℕ) (list : OneList) (sort : Sort) → list ≡ L.Is sort l → n < l .count → Fits f list → FitsAt f (l .start) n sort
+fits-at f l n list sort e h w = by sort (rw e at w)
   where
     by : (sort : Sort) → FitsSort f l sort → FitsAt f (l .start) n sort
     by S.Oid w = omega arith

@@ -5,9 +5,9 @@ ghost use lib.ListN.{length};
 ghost use Rattle.protocol.specs.Elements.{elementAt, elementBy, elementOf, readItemAt, valueOr};
 ghost use Rattle.protocol.specs.Kinds as K;
 ghost use Rattle.protocol.specs.Rules.{rulesOf};
-ghost use Rattle.element.specs.Lists.{Fits, FitsAt, itemOf, listedOf};
+ghost use Rattle.element.specs.OneList.{Fits, FitsAt, itemOf, listedOf};
 
-pub mod lists;
+pub mod list;
 
 use codec::Cursor;
 use codec::Half;
@@ -21,9 +21,9 @@ use items::data::pass_fields;
 use items::response::ErrorStep;
 use items::response::error_field;
 use items::response::pass_error_fields;
-use lists::Lists;
-use lists::Sort;
-use lists::lists_of;
+use list::OneList;
+use list::Sort;
+use list::list_of;
 use protocol::Decoded;
 use protocol::Element;
 use protocol::Rules;
@@ -112,15 +112,15 @@ fn item_at(rules: Rules, frame: &[u8], sort: Sort, start: usize, number: usize) 
     }
 }
 
-fn element_in(rules: Rules, frame: &[u8], lists: Lists, number: usize) -> Element
-    requires { ⌜ Fits (now frame) lists ⌝ }
-    ensures { λ r. ⌜ r ≡ elementAt rules (now (frame .entry)) number (listedOf lists) ⌝ }
+fn element_in(rules: Rules, frame: &[u8], list: OneList, number: usize) -> Element
+    requires { ⌜ Fits (now frame) list ⌝ }
+    ensures { λ r. ⌜ r ≡ elementAt rules (now (frame .entry)) number (listedOf list) ⌝ }
 {
-    let Lists::Is(sort, list) = lists else {
+    let OneList::Is(sort, its) = list else {
         return Element::Refused(NO_SUCH_ELEMENT, 0);
     };
-    let start = list.start;
-    let count = list.count;
+    let start = its.start;
+    let count = its.count;
     if count <= number {
         return Element::Refused(NO_SUCH_ELEMENT, 0);
     }
@@ -132,7 +132,7 @@ pub fn element_by(rules: Rules, buf: &[u8], list: usize, number: usize) -> Eleme
 {
     match decode::decode_by(rules, buf) {
         Decoded::Record(message, end) => {
-            element_in(rules, &buf[..end], lists_of(message, list), number)
+            element_in(rules, &buf[..end], list_of(message, list), number)
         }
         Decoded::NeedMore => Element::NeedMore,
         Decoded::Refused(number, place) => Element::Refused(number, place),

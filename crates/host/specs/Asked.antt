@@ -1,4 +1,4 @@
--- What a call of an encoder asks for, by the kind's number as in LaidOut's numbersOf; the number that is answered, and what the output then holds.
+-- What a call of an encoder asks for, by the number of the kind's row; the number that is answered, and what the output then holds.
 use Prim.Native.Nat.{ℕ, _-_}
 use mathlib.Core.Bool.{cond}
 use mathlib.Core.List.{List, [], _∷_, _++_}
@@ -16,7 +16,9 @@ use Rattle.protocol.specs.Encode.{encodedBy, writtenBy}
 use Rattle.protocol.specs.Kinds as K
 use Rattle.protocol.specs.Kinds.{Kind, Mode, find}
 use Rattle.protocol.specs.Refusals.{typeUnknown}
+use Rattle.protocol.specs.Views.{kindNumber}
 use Rattle.protocol.specs.WellFormed.{Contents}
+use Rattle.host_layout.specs.LaidOut.{ownNumber}
 use Rattle.encode.specs.Given as G
 
 -- a kind in a mode, with the content that the arguments are, if they are one
@@ -30,8 +32,15 @@ pub record Row : Type 0 where
   pub number : ℕ
   pub asks : Option Asked
 
-abbrev pub row : ℕ → Mode → (k : Kind) → Option (Contents k) → Row
-row n m k given = record { number = n; asks = some (record { mode = m; kind = k; given = given }) }
+abbrev asks : Mode → (k : Kind) → Option (Contents k) → Option Asked
+asks m k given = some (record { mode = m; kind = k; given = given })
+
+abbrev row : Mode → (k : Kind) → Option (Contents k) → Row
+row m k given = record { number = kindNumber k; asks = asks m k given }
+
+-- a TLS or GSS answer by its own number: 0 accept, 1 refuse
+abbrev answerRow : Mode → (k : Kind) → Option (Contents k) → Row
+answerRow m k given = record { number = ownNumber k; asks = asks m k given }
 
 abbrev pub rowNumber : Row → ℕ
 rowNumber r = r .number
@@ -46,39 +55,38 @@ askedIn rows n = asksOf (find rowNumber n rows)
 
 -- ---- kinds without a list
 
--- 0 accept, 1 refuse
 abbrev pub sslRows : List Row
-sslRows = row 0 K.tlsAnswer K.sslAccept (G.sslResponse Ssl.Accept) ∷ row 1 K.tlsAnswer K.sslRefuse (G.sslResponse Ssl.Refuse) ∷ []
+sslRows = answerRow K.tlsAnswer K.sslAccept (G.sslResponse Ssl.Accept) ∷ answerRow K.tlsAnswer K.sslRefuse (G.sslResponse Ssl.Refuse) ∷ []
 
 abbrev pub gssRows : List Row
-gssRows = row 0 K.gssAnswer K.gssAccept (G.gssEncResponse Gss.Accept) ∷ row 1 K.gssAnswer K.gssRefuse (G.gssEncResponse Gss.Refuse) ∷ []
+gssRows = answerRow K.gssAnswer K.gssAccept (G.gssEncResponse Gss.Accept) ∷ answerRow K.gssAnswer K.gssRefuse (G.gssEncResponse Gss.Refuse) ∷ []
 
 -- kinds with fields. CopyData and CopyDone are the same bytes in either direction
 abbrev pub fieldRows : ℕ → ℤ → ℤ → List ℕ → List ℕ → List Row
 fieldRows byte first second one two =
-    row 3 K.frontend K.close (G.close byte one)
-    ∷ row 4 K.frontend K.describe (G.describe byte one)
-    ∷ row 5 K.frontend K.execute (G.execute one first)
-    ∷ row 9 K.frontend K.copyData (G.copyData one)
-    ∷ row 10 K.frontend K.copyFail (G.copyFail one)
-    ∷ row 20 K.backend K.commandComplete (G.commandComplete one)
-    ∷ row 21 K.backend K.readyForQuery (G.readyForQuery byte)
-    ∷ row 27 K.backend K.notificationResponse (G.notificationResponse first one two)
-    ∷ row 28 K.cancel K.cancelRequest (G.cancelRequest first second)
-    ∷ record { number = 29; asks = askedIn sslRows byte }
-    ∷ record { number = 30; asks = askedIn gssRows byte } ∷ []
+    row K.frontend K.close (G.close byte one)
+    ∷ row K.frontend K.describe (G.describe byte one)
+    ∷ row K.frontend K.execute (G.execute one first)
+    ∷ row K.frontend K.copyData (G.copyData one)
+    ∷ row K.frontend K.copyFail (G.copyFail one)
+    ∷ row K.backend K.commandComplete (G.commandComplete one)
+    ∷ row K.backend K.readyForQuery (G.readyForQuery byte)
+    ∷ row K.backend K.notificationResponse (G.notificationResponse first one two)
+    ∷ row K.cancel K.cancelRequest (G.cancelRequest first second)
+    ∷ record { number = kindNumber K.sslAccept; asks = askedIn sslRows byte }
+    ∷ record { number = kindNumber K.gssAccept; asks = askedIn gssRows byte } ∷ []
 
 abbrev pub bareRows : List Row
 bareRows =
-    row 6 K.frontend K.flush G.flush
-    ∷ row 7 K.frontend K.sync G.sync
-    ∷ row 8 K.frontend K.copyDone G.copyDone
-    ∷ row 11 K.backend K.parseComplete G.parseComplete
-    ∷ row 12 K.backend K.bindComplete G.bindComplete
-    ∷ row 13 K.backend K.closeComplete G.closeComplete
-    ∷ row 14 K.backend K.portalSuspended G.portalSuspended
-    ∷ row 15 K.backend K.noData G.noData
-    ∷ row 16 K.backend K.emptyQueryResponse G.emptyQueryResponse ∷ []
+    row K.frontend K.flush G.flush
+    ∷ row K.frontend K.sync G.sync
+    ∷ row K.frontend K.copyDone G.copyDone
+    ∷ row K.backend K.parseComplete G.parseComplete
+    ∷ row K.backend K.bindComplete G.bindComplete
+    ∷ row K.backend K.closeComplete G.closeComplete
+    ∷ row K.backend K.portalSuspended G.portalSuspended
+    ∷ row K.backend K.noData G.noData
+    ∷ row K.backend K.emptyQueryResponse G.emptyQueryResponse ∷ []
 
 abbrev pub asked : ℕ → ℕ → ℤ → ℤ → List ℕ → List ℕ → Option Asked
 asked kind byte first second one two = askedIn (fieldRows byte first second one two ++ bareRows) kind
@@ -87,15 +95,15 @@ asked kind byte first second one two = askedIn (fieldRows byte first second one 
 
 abbrev pub listRows : ℤ → List ℕ → List ℕ → List ℕ → List ℕ → List ℤ → List ℤ → List ℤ → List Row
 listRows format one two joined words lengths formats results =
-    row 1 K.frontend K.parse (G.parse one two words)
-    ∷ row 2 K.frontend K.bind (G.bind one two formats lengths joined results)
-    ∷ row 18 K.backend K.parameterDescription (G.parameterDescription words)
-    ∷ row 19 K.backend K.dataRow (G.dataRow lengths joined)
-    ∷ row 22 K.backend K.errorResponse (G.errorResponse one words joined)
-    ∷ row 23 K.backend K.noticeResponse (G.noticeResponse one words joined)
-    ∷ row 24 K.backend K.copyInResponse (G.copyInResponse format formats)
-    ∷ row 25 K.backend K.copyOutResponse (G.copyOutResponse format formats)
-    ∷ row 26 K.backend K.copyBothResponse (G.copyBothResponse format formats) ∷ []
+    row K.frontend K.parse (G.parse one two words)
+    ∷ row K.frontend K.bind (G.bind one two formats lengths joined results)
+    ∷ row K.backend K.parameterDescription (G.parameterDescription words)
+    ∷ row K.backend K.dataRow (G.dataRow lengths joined)
+    ∷ row K.backend K.errorResponse (G.errorResponse one words joined)
+    ∷ row K.backend K.noticeResponse (G.noticeResponse one words joined)
+    ∷ row K.backend K.copyInResponse (G.copyInResponse format formats)
+    ∷ row K.backend K.copyOutResponse (G.copyOutResponse format formats)
+    ∷ row K.backend K.copyBothResponse (G.copyBothResponse format formats) ∷ []
 
 abbrev pub askedLists : ℕ → ℤ → List ℕ → List ℕ → List ℕ → List ℕ → List ℤ → List ℤ → List ℤ → Option Asked
 askedLists kind format one two joined words lengths formats results = askedIn (listRows format one two joined words lengths formats results) kind
@@ -103,7 +111,7 @@ askedLists kind format one two joined words lengths formats results = askedIn (l
 -- ---- a row's description
 
 abbrev pub askedRow : List FieldDescription → List ℕ → Option Asked
-askedRow fields run = some (record { mode = K.backend; kind = K.rowDescription; given = G.rowDescription fields run })
+askedRow fields run = asks K.backend K.rowDescription (G.rowDescription fields run)
 
 -- ---- the answer and the output
 

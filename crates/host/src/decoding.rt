@@ -2,7 +2,9 @@
 ghost use mathlib.Core.Path.{_≡_};
 ghost use Rattle.protocol.specs.Decode.{decodeOf};
 ghost use Rattle.protocol.specs.Rules.{rulesOf};
-ghost use Rattle.host_layout.specs.LaidOut.{gssNumber, laidOut, numbersOf, recordOut, sslNumber};
+ghost use Rattle.protocol.specs.Views.{view};
+ghost use Rattle.protocol.specs.declared.Message.the-variants as M;
+ghost use Rattle.host_layout.specs.LaidOut.{laidOut, numbersOf, ownNumber, recordOut};
 use host_layout::shapes;
 use protocol::Decoded;
 use protocol::Message;
@@ -47,7 +49,7 @@ fn record(message: Message, n: usize) -> [usize; 16]
 }
 
 fn ssl_number(answer: SslResponse) -> usize
-    ensures { λ r. ⌜ r ≡ sslNumber answer ⌝ }
+    ensures { λ r. ⌜ r ≡ ownNumber (view (M.SslResponse answer) .kind) ⌝ }
 {
     match answer {
         SslResponse::Accept => 0,
@@ -56,7 +58,7 @@ fn ssl_number(answer: SslResponse) -> usize
 }
 
 fn gss_number(answer: GssEncResponse) -> usize
-    ensures { λ r. ⌜ r ≡ gssNumber answer ⌝ }
+    ensures { λ r. ⌜ r ≡ ownNumber (view (M.GssEncResponse answer) .kind) ⌝ }
 {
     match answer {
         GssEncResponse::Accept => 0,

@@ -6,24 +6,24 @@
 -- A signed number is laid out as its 32 bits in two's complement.
 use Prim.Native.Nat.{ℕ, zero, suc}
 use mathlib.Core.List.{List, [], _∷_, _++_}
-use lib.IntN.{ℤ}
+use mathlib.Core.Option.{Option, some, none}
+use lib.IntN.{ℤ, negsuc}
 use lib.ListN.{getD, drop}
 use Rattle.protocol.specs.declared.Decoded.the-variants as D
 use Rattle.protocol.specs.declared.Decoded.{Decoded}
 use Rattle.protocol.specs.declared.Element.the-variants as E
 use Rattle.protocol.specs.declared.Element.{Element}
 use Rattle.protocol.specs.declared.List.{List as ListSlot}
-use Rattle.protocol.specs.declared.Message.the-variants as M
 use Rattle.protocol.specs.declared.Message.{Message}
 use Rattle.protocol.specs.declared.Span.{Span}
 use Rattle.protocol.specs.declared.data.FieldDescription.{FieldDescription}
-use Rattle.protocol.specs.declared.extendedquery.Bind.{Bind}
-use Rattle.protocol.specs.declared.response.GssEncResponse.the-variants as Gss
-use Rattle.protocol.specs.declared.response.GssEncResponse.{GssEncResponse}
-use Rattle.protocol.specs.declared.response.SslResponse.the-variants as Ssl
-use Rattle.protocol.specs.declared.response.SslResponse.{SslResponse}
 use Rattle.protocol.specs.Answers.{Answer, success, needsMore, refusal}
 use Rattle.protocol.specs.Bytes.{bitsOf}
+use Rattle.protocol.specs.Each.{Each}
+use Rattle.protocol.specs.Fields as F
+use Rattle.protocol.specs.Fields.{Atom, AtomSlot, Field, Slot}
+use Rattle.protocol.specs.Kinds.{Kind}
+use Rattle.protocol.specs.Views.{view}
 
 -- the first n numbers of some, zeros behind them
 abbrev pub padded : ℕ → List ℕ → List ℕ
@@ -41,52 +41,35 @@ list l = l .start ∷ l .count ∷ []
 abbrev pub signed : ℤ → List ℕ
 signed z = bitsOf 4 z ∷ []
 
--- 0 accept, 1 refuse
-abbrev pub sslNumber : SslResponse → ℕ
-sslNumber Ssl.Accept = 0
-sslNumber Ssl.Refuse = 1
+-- NULL has the start 0 and the length -1, as in the lists of a whole row
+abbrev orNull : Option Span → List ℕ
+orNull none = 0 ∷ signed (negsuc 0)
+orNull (some s) = span s
 
-abbrev pub gssNumber : GssEncResponse → ℕ
-gssNumber Gss.Accept = 0
-gssNumber Gss.Refuse = 1
+abbrev atomNumbers : (a : Atom) → AtomSlot a → List ℕ
+atomNumbers (F.unsigned w) n = n ∷ []
+atomNumbers (F.signed w) z = signed z
+atomNumbers (F.oneOf bs) b = b ∷ []
+atomNumbers F.text s = span s
+atomNumbers F.value v = orNull v
+atomNumbers F.rest s = span s
 
-abbrev pub bindNumbers : Bind → List ℕ
-bindNumbers m =
-    span (m .«portal_name») ++ span (m .«statement_name») ++ list (m .«parameter_format_codes») ++ list (m .parameters)
-    ++ list (m .«result_column_format_codes»)
+abbrev slotNumbers : (x : Field) → Slot x → List ℕ
+slotNumbers (F.one a) v = atomNumbers a v
+slotNumbers (F.counted k i) l = list l
+slotNumbers (F.ended i) l = list l
 
--- a kind's number, and the numbers of its fields
+abbrev eachNumbers : (xs : List Field) → Each Slot xs → List ℕ
+eachNumbers [] s = []
+eachNumbers (x ∷ xs) s = slotNumbers x (s .0) ++ eachNumbers xs (s .1)
+
+-- a kind's number, a TLS or GSS answer's own behind it, and the numbers of its fields
 unfoldable pub numbersOf : Message → List ℕ
-numbersOf (M.Parse m) = 1 ∷ span (m .name) ++ span (m .query) ++ list (m .«type_oids»)
-numbersOf (M.Bind m) = 2 ∷ bindNumbers m
-numbersOf (M.Close m) = 3 ∷ m .«target_type» ∷ span (m .name)
-numbersOf (M.Describe m) = 4 ∷ m .«target_type» ∷ span (m .name)
-numbersOf (M.Execute m) = 5 ∷ span (m .name) ++ signed (m .«max_rows»)
-numbersOf M.Flush = 6 ∷ []
-numbersOf M.Sync = 7 ∷ []
-numbersOf M.CopyDone = 8 ∷ []
-numbersOf (M.CopyData m) = 9 ∷ span (m .«data»)
-numbersOf (M.CopyFail m) = 10 ∷ span (m .message)
-numbersOf M.ParseComplete = 11 ∷ []
-numbersOf M.BindComplete = 12 ∷ []
-numbersOf M.CloseComplete = 13 ∷ []
-numbersOf M.PortalSuspended = 14 ∷ []
-numbersOf M.NoData = 15 ∷ []
-numbersOf M.EmptyQueryResponse = 16 ∷ []
-numbersOf (M.RowDescription m) = 17 ∷ list (m .fields)
-numbersOf (M.ParameterDescription m) = 18 ∷ list (m .types)
-numbersOf (M.DataRow m) = 19 ∷ list (m .«data»)
-numbersOf (M.CommandComplete m) = 20 ∷ span (m .tag)
-numbersOf (M.ReadyForQuery m) = 21 ∷ m .status ∷ []
-numbersOf (M.ErrorResponse m) = 22 ∷ list (m .fields)
-numbersOf (M.NoticeResponse m) = 23 ∷ list (m .fields)
-numbersOf (M.CopyInResponse m) = 24 ∷ signed (m .format) ++ list (m .«column_formats»)
-numbersOf (M.CopyOutResponse m) = 25 ∷ signed (m .format) ++ list (m .«column_formats»)
-numbersOf (M.CopyBothResponse m) = 26 ∷ signed (m .format) ++ list (m .«column_formats»)
-numbersOf (M.NotificationResponse m) = 27 ∷ signed (m .pid) ++ span (m .channel) ++ span (m .payload)
-numbersOf (M.CancelRequest m) = 28 ∷ signed (m .pid) ++ signed (m .«secret_key»)
-numbersOf (M.SslResponse answer) = 29 ∷ sslNumber answer ∷ []
-numbersOf (M.GssEncResponse answer) = 30 ∷ gssNumber answer ∷ []
+numbersOf m = view m .kind .numbers ++ eachNumbers (view m .kind .body) (view m .slots)
+
+-- a TLS or GSS answer's own number, behind its kind's
+abbrev pub ownNumber : Kind → ℕ
+ownNumber k = getD (k .numbers) 1 0
 
 -- a row's field
 abbrev pub fieldNumbers : FieldDescription → List ℕ

@@ -1,7 +1,8 @@
 // An answer's row of 16 numbers, by the shape of its fields.
 ghost use mathlib.Core.List.{[], _∷_, _++_};
 ghost use mathlib.Core.Path.{_≡_};
-ghost use Rattle.host_layout.specs.LaidOut.{bindNumbers, list, needMoreOut, recordOut, refusedOut, signed, span};
+ghost use Rattle.protocol.specs.declared.Message.the-variants as M;
+ghost use Rattle.host_layout.specs.LaidOut.{list, needMoreOut, numbersOf, recordOut, refusedOut, signed, span};
 use crate::bits::bits;
 use protocol::List;
 use protocol::Span;
@@ -131,7 +132,7 @@ pub fn copy(kind: usize, n: usize, format: i8, l: List) -> [usize; 16]
 }
 
 pub fn parse(n: usize, m: Parse) -> [usize; 16]
-    ensures { λ r. ⌜ r ≡ recordOut n (1 ∷ span (m .name) ++ span (m .query) ++ list (m .«type_oids»)) ⌝ }
+    ensures { λ r. ⌜ r ≡ recordOut n (numbersOf (M.Parse m)) ⌝ }
 {
     let name = m.name;
     let query = m.query;
@@ -157,7 +158,7 @@ pub fn parse(n: usize, m: Parse) -> [usize; 16]
 }
 
 pub fn bind(n: usize, m: Bind) -> [usize; 16]
-    ensures { λ r. ⌜ r ≡ recordOut n (2 ∷ bindNumbers m) ⌝ }
+    ensures { λ r. ⌜ r ≡ recordOut n (numbersOf (M.Bind m)) ⌝ }
 {
     let portal = m.portal_name;
     let statement = m.statement_name;
@@ -185,7 +186,7 @@ pub fn bind(n: usize, m: Bind) -> [usize; 16]
 }
 
 pub fn execute(n: usize, m: Execute) -> [usize; 16]
-    ensures { λ r. ⌜ r ≡ recordOut n (5 ∷ span (m .name) ++ signed (m .«max_rows»)) ⌝ }
+    ensures { λ r. ⌜ r ≡ recordOut n (numbersOf (M.Execute m)) ⌝ }
 {
     let name = m.name;
     let max_rows = bits(m.max_rows);
@@ -210,7 +211,7 @@ pub fn execute(n: usize, m: Execute) -> [usize; 16]
 }
 
 pub fn notification(n: usize, m: NotificationResponse) -> [usize; 16]
-    ensures { λ r. ⌜ r ≡ recordOut n (27 ∷ signed (m .pid) ++ span (m .channel) ++ span (m .payload)) ⌝ }
+    ensures { λ r. ⌜ r ≡ recordOut n (numbersOf (M.NotificationResponse m)) ⌝ }
 {
     let pid = bits(m.pid);
     let channel = m.channel;
@@ -236,7 +237,7 @@ pub fn notification(n: usize, m: NotificationResponse) -> [usize; 16]
 }
 
 pub fn cancel(n: usize, m: CancelRequest) -> [usize; 16]
-    ensures { λ r. ⌜ r ≡ recordOut n (28 ∷ signed (m .pid) ++ signed (m .«secret_key»)) ⌝ }
+    ensures { λ r. ⌜ r ≡ recordOut n (numbersOf (M.CancelRequest m)) ⌝ }
 {
     let pid = bits(m.pid);
     let secret_key = bits(m.secret_key);

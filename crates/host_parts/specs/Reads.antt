@@ -1,6 +1,6 @@
 -- The numbers that the reader's answers are laid out as.
 use Prim.Native.Nat.{ℕ}
-use mathlib.Core.List.{List, [], _∷_}
+use mathlib.Core.List.{List, [], _∷_, _++_}
 use mathlib.Core.Option.{Option, some, none}
 use mathlib.Core.Path.{_≡_}
 use lib.IntN.{ℤ}
@@ -10,7 +10,7 @@ use Rattle.protocol.specs.declared.data.FieldDescription.{FieldDescription}
 use Rattle.protocol.specs.Decode.{decodeOf}
 use Rattle.protocol.specs.Each.{Each}
 use Rattle.protocol.specs.Fields.{AtomSlot}
-use Rattle.protocol.specs.Kinds.{errorField}
+use Rattle.protocol.specs.Kinds.{dataRow, errorField}
 use Rattle.protocol.specs.Reading.{Read, got, bad}
 use Rattle.protocol.specs.Rules.{rulesOf}
 use Rattle.reader.specs.Row.{lengthsOf, over, placesIn, rowBy, startsOf}
@@ -35,7 +35,7 @@ errorFieldOut (bad number place) = refusedOut 16 number place
 
 -- a row as a record of its kind
 unfoldable pub rowOut : Row → List ℕ
-rowOut (R.Is l n) = recordOut n (19 ∷ list l)
+rowOut (R.Is l n) = recordOut n (dataRow .numbers ++ list l)
 rowOut R.NeedMore = needMoreOut 16
 rowOut (R.Refused number place) = refusedOut 16 number place
 

@@ -19,19 +19,19 @@ use Rattle.protocol.specs.Bytes.{isOneOf}
 use Rattle.protocol.specs.Refusals.{outputTooShort, noSuchElement}
 use Rattle.protocol.specs.Rules.{rulesOf}
 use Rattle.reader.specs.Row.{rowIn, rowFits, rowBy, ofRow}
+use Rattle.reader.proofs.Rows.{row-in, data-row}
 use Rattle.reader.specs.declared.row.Row.the-variants as R
 use Rattle.reader.specs.declared.row.Row.{Row}
 use Rattle.laws.specs.ReaderStatements.{RowAnswers, rowNumbers, RowNumbered}
 use Rattle.laws.specs.Statements.{theDecoder, GivesNothing, decodeNumbers}
 use Rattle.laws.proofs.Answered.{recorded, waiting, refused, refusal-is, needs-refusal, not-success}
 use Rattle.laws.proofs.Numbered.{success-nothing, needs-nothing, refusal-nothing, one-of-more, numbered}
-use Rattle.laws.proofs.RowEntries.{is-row}
 
 -- a message that is no row
 no-row : (m : Message) → ((r : DataRow) → m ≡ M.DataRow r → ⊥) → (o : Option ListSlot) → rowIn m ≡ o → (n starts lengths : ℕ) → ofRow (rowFits o n starts lengths) ≡ refusal noSuchElement 0
 unfolding rowFits ofRow
 no-row m other none e n starts lengths = refl
-no-row m other (some l) e n starts lengths = let w = is-row m l e in absurd (other (w .0) (w .1))
+no-row m other (some l) e n starts lengths = let w = data-row m l e in absurd (other (w .0) (w .1))
 
 -- lists of which one is too short
 too-short : (count starts lengths : ℕ) → (starts < count) ⊎ (lengths < count) → leb count starts && leb count lengths ≡ false
@@ -48,8 +48,8 @@ row-answers s starts₀ starts₁ lengths₀ lengths₁ r h = record {
   needMore = λ e. rw (h .answer, waiting e) refl;
   refused = λ number place e. rw (h .answer, refused e) refl;
   other = λ m n e no. rw (h .answer, recorded e) (no-row m no (rowIn m) refl n (length starts₀) (length lengths₀));
-  short = λ row n e w. rw (h .answer, recorded e, too-short _ _ _ w) refl;
-  row = λ row n e a b. rw (h .answer, recorded e, le-leb _ _ a, le-leb _ _ b) refl;
+  short = λ row n e w. rw (h .answer, recorded e, row-in row, too-short _ _ _ w) refl;
+  row = λ row n e a b. rw (h .answer, recorded e, row-in row, le-leb _ _ a, le-leb _ _ b) refl;
 }
 
 -- ---- the number of a row that is refused

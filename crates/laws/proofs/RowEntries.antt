@@ -3,7 +3,7 @@ use Prim.Native.Nat.{ℕ, zero, suc, _+_, _-_, _/_, _^_, _≤_, _<_}
 use mathlib.Core.Bool.{Bool, true, false, cond, _&&_, false≢true}
 use mathlib.Core.List.{List, [], _∷_, _++_, map}
 use mathlib.Core.Option.{Option, some, none}
-use mathlib.Core.Path.{_≡_, refl, ap, sym, _∙_}
+use mathlib.Core.Path.{_≡_, refl, ap, sym, subst, _∙_}
 use native.Mathlib.Omega.{arith}
 use borrow.Author.Tests.{ltb-true, lt-ltb, eq-eqb}
 use denote.Enum.Declared.{tagOf as variantOf}
@@ -21,21 +21,21 @@ use Rattle.protocol.specs.declared.data.DataRow.{DataRow}
 use Rattle.protocol.specs.declared.Span.{Span}
 use Rattle.protocol.specs.Answers.{success, ofElement}
 use Rattle.protocol.specs.Bytes.{signedOf}
-use Rattle.protocol.specs.Decode.{Header, more, refuse, framed, tagAt, headerOf, closed, decodedBy, decodeBy, decodeOf}
-use Rattle.protocol.specs.Elements.{readItemAt, elementBy, elementAt}
+use Rattle.protocol.specs.Decode.{Header, more, refuse, framed, headerOf, closed, decodedBy, decodeBy, decodeOf}
+use Rattle.protocol.specs.Elements.{listIn, listOf, readItemAt, elementBy, elementAt}
 use Rattle.protocol.specs.Fields.{AtomSlot, itemLeast, signedCount, Slot}
 use Rattle.protocol.specs.Each.{Each}
-use Rattle.protocol.specs.Kinds.{Kind, backend, modeOf, kindIn, find, dataRow, nullable, values, valueElement}
+use Rattle.protocol.specs.Kinds.{Kind, dataRow, nullable, values, valueElement}
 use Rattle.protocol.specs.Reading.{Read, got, bad, andThen, readNumber, valueAt, readValue, readEach, readCount, readCounted, passItems, read}
 use Rattle.protocol.specs.Refusals.{bytesLeft, outputTooShort}
 use Rattle.protocol.specs.Rules.{rulesOf}
+use Rattle.protocol.specs.Views.{View, view}
 use Rattle.protocol.proofs.Counts.{counted-is}
-use Rattle.protocol.proofs.Find.{All, find-all, tagOf}
+use Rattle.protocol.proofs.Find.{told-row}
 use Rattle.protocol.proofs.Framed.{framed-is}
-use Rattle.protocol.proofs.Message as Variants
-use Rattle.protocol.specs.Kinds.{the-table}
-use Rattle.element.specs.Lists.{listsOf}
+use Rattle.protocol.proofs.Views.{Viewed, viewed}
 use Rattle.element.proofs.Calls.{answered-as}
+use Rattle.reader.proofs.Rows.{data-row}
 use Rattle.reader.specs.declared.row.Row.the-variants as R
 use Rattle.reader.specs.Row.{Place, lengthWord, startOf, lengthOf, entryOf, placesFrom, rowIn, rowFits, rowBy, over, startsOf, lengthsOf, ReadsRow}
 use Rattle.laws.specs.Arguments.{nth}
@@ -162,10 +162,6 @@ module _ (rules : Rules) (f : List ℕ) where
   count-by p q l (got l′ q′) c h = pass-by p q q′ l l′ c (passItems rules nullable (l′ .count) f q′) refl h
   count-by p q l (bad number place) c h = let z : _≡_ {A = ℕ} 0 1 = cc in absurd (omega arith)
 
-  -- of a kind whose message is a row: its values were passed
-  abbrev Passes : Kind → Type 0
-  Passes k = (p q : ℕ) (s : Each Slot (k .body)) (r : DataRow) → readEach (read rules) (k .body) f p ≡ got s q → k .message s ≡ M.DataRow r → passItems rules nullable (dataOf r .count) f (dataOf r .start) ≡ got tt q
-
   row-by : (p q : ℕ) (s : Each Slot (values ∷ [])) (r : Read ListSlot) → readCounted rules signedCount nullable f p ≡ r → andThen {Y = Each Slot (values ∷ [])} r (λ l e. got (l, tt) e) ≡ got s q → passItems rules nullable (s .0 .count) f (s .0 .start) ≡ got tt q
   unfolding readCounted
   row-by p q s (got l e) is h =
@@ -174,22 +170,12 @@ module _ (rules : Rules) (f : List ℕ) where
       rw (← same) (count-by p q l (readCount signedCount (itemLeast nullable) f p) refl (is ∙ ap (got l) end))
   row-by p q s (bad number place) is h = let z : _≡_ {A = ℕ} 0 1 = cc in absurd (omega arith)
 
-  row-passes : Passes dataRow
-  unfolding dataRow
-  row-passes p q s r e m =
-      let same : s .0 ≡ dataOf r = cc in
-      rw (← same) (row-by p q s (readCounted rules signedCount nullable f p) refl e)
-
-  -- no other kind's message is a row, since it is another variant
-  abbrev variant : Message → ℕ
-  variant m = variantOf Variants.the-type m
-
-  other-passes : (k : Kind) → ((s : Each Slot (k .body)) (r : DataRow) → eqb (variant (k .message s)) (variant (M.DataRow r)) ≡ false) → Passes k
-  other-passes k other p q s r e m = absurd (false≢true (sym (other s r) ∙ eq-eqb _ _ (ap variant m)))
-
-  all-pass : All Passes (backend .kinds)
-  unfolding the-table
-  all-pass = search (row-passes, other-passes, tt) depth 60 fits 5000
+  -- a kind whose message is a row: it is viewed as a row, so its values were passed
+  row-passes : (k : Kind) → Viewed k → (p q : ℕ) (s : Each Slot (k .body)) (r : DataRow) → readEach (read rules) (k .body) f p ≡ got s q → k .message s ≡ M.DataRow r → passItems rules nullable (dataOf r .count) f (dataOf r .start) ≡ got tt q
+  unfolding view dataRow
+  row-passes k is p q s r e m =
+      let same : record { kind = k; slots = s } ≡ view (M.DataRow r) = sym (is s) ∙ ap view m in
+      row-by p q (dataOf r, tt) (readCounted rules signedCount nullable f p) refl (subst (λ (v : View). readEach (read rules) (v .kind .body) f p ≡ got (v .slots) q) same e)
 
 abbrev fromBackend : Rules
 fromBackend = rulesOf 1
@@ -198,13 +184,6 @@ module _ (s : List ℕ) (row : DataRow) (n : ℕ) where
   abbrev Were : Type 0
   Were = (q : ℕ) × (passItems fromBackend nullable (dataOf row .count) (take n s) (dataOf row .start) ≡ got tt q)
 
-  kind-passes : (k : Kind) (a b : ℕ) → headerOf fromBackend s ≡ framed k a b → Passes fromBackend (take b s) k
-  unfolding modeOf kindIn find the-table
-  kind-passes k a b e =
-      let w = framed-is fromBackend s k a b e in
-      let mode : w .mode ≡ backend = let known = w .known in cc in
-      find-all tagOf (Passes fromBackend (take b s)) (backend .kinds) (tagAt (backend .envelope) s) k (all-pass fromBackend (take b s)) (rw mode at (w .tag))
-
   by-end : (k : Kind) (a b : ℕ) → headerOf fromBackend s ≡ framed k a b → (v : Each Slot (k .body)) (q : ℕ) → readEach (read fromBackend) (k .body) (take b s) a ≡ got v q
       → (t : Bool) → decodedBy (cond t (bad bytesLeft q) (got (k .message v) q)) b ≡ D.Record (M.DataRow row) n → Were
   unfolding decodedBy
@@ -212,7 +191,8 @@ module _ (s : List ℕ) (row : DataRow) (n : ℕ) where
   by-end k a b e v q r false d =
       let is : k .message v ≡ M.DataRow row = cc in
       let end : b ≡ n = cc in
-      (q, rw (← end) (kind-passes k a b e a q v row r is))
+      let w = framed-is fromBackend s k a b e in
+      (q, rw (← end) (row-passes fromBackend (take b s) k (told-row Viewed viewed fromBackend _ (w .known) (w .tag)) a q v row r is))
 
   by-body : (k : Kind) (a b : ℕ) → headerOf fromBackend s ≡ framed k a b → (r : Read (Each Slot (k .body))) → readEach (read fromBackend) (k .body) (take b s) a ≡ r
       → decodedBy (andThen r (λ v q. closed (take b s) q (k .message v))) b ≡ D.Record (M.DataRow row) n → Were
@@ -242,38 +222,6 @@ fits-by (some x) consumed starts lengths l n e = by (leb (x .count) starts && le
     by true q = let same : x ≡ l = cc in (ap some same, cc)
     by false q = let z : _≡_ {A = ℕ} 0 1 = cc in absurd (omega arith)
 
-pub is-row : (m : Message) (l : ListSlot) → rowIn m ≡ some l → (row : DataRow) × (m ≡ M.DataRow row) × (dataOf row ≡ l)
-is-row (M.DataRow row) l e = (row, refl, cc)
-is-row (M.Parse r) l e = let z : _≡_ {A = ℕ} 0 1 = cc in absurd (omega arith)
-is-row (M.Bind r) l e = let z : _≡_ {A = ℕ} 0 1 = cc in absurd (omega arith)
-is-row (M.Close r) l e = let z : _≡_ {A = ℕ} 0 1 = cc in absurd (omega arith)
-is-row (M.Describe r) l e = let z : _≡_ {A = ℕ} 0 1 = cc in absurd (omega arith)
-is-row (M.Execute r) l e = let z : _≡_ {A = ℕ} 0 1 = cc in absurd (omega arith)
-is-row (M.CopyData r) l e = let z : _≡_ {A = ℕ} 0 1 = cc in absurd (omega arith)
-is-row (M.CopyFail r) l e = let z : _≡_ {A = ℕ} 0 1 = cc in absurd (omega arith)
-is-row (M.RowDescription r) l e = let z : _≡_ {A = ℕ} 0 1 = cc in absurd (omega arith)
-is-row (M.ParameterDescription r) l e = let z : _≡_ {A = ℕ} 0 1 = cc in absurd (omega arith)
-is-row (M.CommandComplete r) l e = let z : _≡_ {A = ℕ} 0 1 = cc in absurd (omega arith)
-is-row (M.ReadyForQuery r) l e = let z : _≡_ {A = ℕ} 0 1 = cc in absurd (omega arith)
-is-row (M.ErrorResponse r) l e = let z : _≡_ {A = ℕ} 0 1 = cc in absurd (omega arith)
-is-row (M.NoticeResponse r) l e = let z : _≡_ {A = ℕ} 0 1 = cc in absurd (omega arith)
-is-row (M.CopyInResponse r) l e = let z : _≡_ {A = ℕ} 0 1 = cc in absurd (omega arith)
-is-row (M.CopyOutResponse r) l e = let z : _≡_ {A = ℕ} 0 1 = cc in absurd (omega arith)
-is-row (M.CopyBothResponse r) l e = let z : _≡_ {A = ℕ} 0 1 = cc in absurd (omega arith)
-is-row (M.NotificationResponse r) l e = let z : _≡_ {A = ℕ} 0 1 = cc in absurd (omega arith)
-is-row (M.CancelRequest r) l e = let z : _≡_ {A = ℕ} 0 1 = cc in absurd (omega arith)
-is-row (M.SslResponse r) l e = let z : _≡_ {A = ℕ} 0 1 = cc in absurd (omega arith)
-is-row (M.GssEncResponse r) l e = let z : _≡_ {A = ℕ} 0 1 = cc in absurd (omega arith)
-is-row M.Flush l e = let z : _≡_ {A = ℕ} 0 1 = cc in absurd (omega arith)
-is-row M.Sync l e = let z : _≡_ {A = ℕ} 0 1 = cc in absurd (omega arith)
-is-row M.CopyDone l e = let z : _≡_ {A = ℕ} 0 1 = cc in absurd (omega arith)
-is-row M.ParseComplete l e = let z : _≡_ {A = ℕ} 0 1 = cc in absurd (omega arith)
-is-row M.BindComplete l e = let z : _≡_ {A = ℕ} 0 1 = cc in absurd (omega arith)
-is-row M.CloseComplete l e = let z : _≡_ {A = ℕ} 0 1 = cc in absurd (omega arith)
-is-row M.PortalSuspended l e = let z : _≡_ {A = ℕ} 0 1 = cc in absurd (omega arith)
-is-row M.NoData l e = let z : _≡_ {A = ℕ} 0 1 = cc in absurd (omega arith)
-is-row M.EmptyQueryResponse l e = let z : _≡_ {A = ℕ} 0 1 = cc in absurd (omega arith)
-
 record Decoded-row (s : List ℕ) (l : ListSlot) (n : ℕ) : Type 0 where
   row : DataRow
   is : decodeOf fromBackend s ≡ D.Record (M.DataRow row) n
@@ -283,7 +231,7 @@ decoded-row : (s : List ℕ) (d : Decoded) (starts lengths : ℕ) (l : ListSlot)
 unfolding rowBy
 decoded-row s (D.Record m k) starts lengths l n e q =
     let f = fits-by (rowIn m) k starts lengths l n q in
-    let r = is-row m l (f .0) in
+    let r = data-row m l (f .0) in
     record { row = r .0; is = e ∙ ap (λ (x : Message). D.Record x k) (r .1) ∙ ap (D.Record (M.DataRow (r .0))) (f .1); list = r .2 }
 decoded-row s D.NeedMore starts lengths l n e q = let z : _≡_ {A = ℕ} 0 1 = cc in absurd (omega arith)
 decoded-row s (D.Refused number place) starts lengths l n e q = let z : _≡_ {A = ℕ} 0 1 = cc in absurd (omega arith)
@@ -299,7 +247,7 @@ entry-says start (pos n) = refl
 entry-says start (negsuc n) = refl
 
 entries : (s starts₀ starts₁ : List ℕ) (lengths₀ lengths₁ : List ℤ) (l : ListSlot) (n : ℕ) → ReadsRow s starts₀ lengths₀ (R.Is l n) starts₁ lengths₁ → RowIs theElementCall s starts₀ starts₁ lengths₀ lengths₁ (l .count)
-unfolding listsOf
+unfolding listOf listIn view dataRow
 entries s starts₀ starts₁ lengths₀ lengths₁ l n e =
     let d = decoded-row s (decodeOf fromBackend s) (length starts₀) (length lengths₀) l n refl (e .answer) in
     let f = take n s in

@@ -7,6 +7,7 @@ ghost use Rattle.protocol.specs.Stream.{stepAt};
 ghost use Rattle.listing.specs.Listing.{Fills, Lined, lineFrom, lineOf, linesOf, openingOf, sized, stepLine, stepOf};
 
 mod lines;
+mod names;
 mod text;
 
 use lines::put_frame;

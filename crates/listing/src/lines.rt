@@ -5,7 +5,7 @@ ghost use lib.ListN.{length};
 ghost use Rattle.protocol.specs.Stream.{needMore, refused, whole};
 ghost use Rattle.listing.specs.Listing.{endLine, frameLine, newline};
 ghost use Rattle.listing.specs.Text.{Wrote, decimal};
-use crate::text::put_name;
+use crate::names::put_name;
 use crate::text::put_number;
 use protocol::Message;
 use writers::put_byte;

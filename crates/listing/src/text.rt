@@ -2,9 +2,7 @@
 ghost use Prim.Native.Nat.{_+_, _≤_, _<_};
 ghost use mathlib.Core.Path.{_≡_};
 ghost use lib.ListN.{drop, length, take};
-ghost use Rattle.protocol.specs.Names.{lettersOf, nameOf};
 ghost use Rattle.listing.specs.Text.{Wrote, decimal};
-use protocol::Message;
 use writers::put_bytes;
 
 // A number's digits, the last in the last place.
@@ -48,28 +46,10 @@ pub fn put_number(out: &mut [u8], at: usize, n: usize) -> usize
 }
 
 // A part of some bytes.
-fn put_part(out: &mut [u8], at: usize, s: &[u8], start: usize, len: usize) -> usize
+pub fn put_part(out: &mut [u8], at: usize, s: &[u8], start: usize, len: usize) -> usize
     requires { ⌜ (start + len ≤ length (now s)) × (at + len ≤ length (now out)) ⌝ }
     ensures { λ r. ⌜ Wrote (now (out .entry)) at (take len (drop start (now (s .entry)))) (now (out .exit)) r ⌝ }
     ensures { λ r. ⌜ r ≡ at + len ⌝ }
 {
     put_bytes(out, at, &s[start..start + len])
-}
-
-// A kind's name, the Rust's type name.
-pub fn put_name(out: &mut [u8], at: usize, message: Message) -> usize
-    requires { ⌜ at + 20 ≤ length (now out) ⌝ }
-    ensures { λ r. ⌜ Wrote (now (out .entry)) at (lettersOf (nameOf message)) (now (out .exit)) r ⌝ }
-    ensures { λ r. ⌜ r ≤ at + 20 ⌝ }
-{
-    let name = names::name_of(message);
-    let start = name.at;
-    let len = name.len;
-    put_part(
-        out,
-        at,
-        b"Parse Bind Close Describe Execute Flush Sync CopyDone CopyData CopyFail ParseComplete BindComplete CloseComplete PortalSuspended NoData EmptyQueryResponse RowDescription ParameterDescription DataRow CommandComplete ReadyForQuery ErrorResponse NoticeResponse CopyInResponse CopyOutResponse CopyBothResponse NotificationResponse CancelRequest SslResponse GssEncResponse",
-        start,
-        len,
-    )
 }

@@ -105,3 +105,8 @@ mode-is rules e = ap (λ (n : ℕ). find numberOf n modes) e
 pub no-mode : (rules : Rules) → Apart (rules .mode) (keysOnto numberOf modes []) → modeOf rules ≡ none
 unfolding modeOf
 no-mode rules h = find-apart numberOf (rules .mode) modes [] h .0
+
+-- what holds of each row holds of the one that a mode and a tag tell
+pub told-row : (P : Kind → Type 0) → All (λ (m : Mode). All P (m .kinds)) modes → (rules : Rules) {m : Mode} {k : Kind} (tag : ℕ) → modeOf rules ≡ some m → kindIn m tag ≡ some k → P k
+unfolding modeOf kindIn
+told-row P h rules {m} {k} tag known row = find-all tagOf P (m .kinds) tag k (find-all numberOf (λ (m : Mode). All P (m .kinds)) modes (rules .mode) m h known) row

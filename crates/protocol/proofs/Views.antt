@@ -1,18 +1,114 @@
--- A message that a row makes is viewed as that row, with what it was made of: one test over all rows.
-use mathlib.Core.List.{List}
+-- A message that a row makes is viewed as that row, with what it was made of; and every message is made by the row that it is viewed as. So what holds
+-- of each row holds of every message's row: one test over all rows.
+use Prim.Native.Nat.{ℕ, zero, suc}
+use mathlib.Core.Bool.{Bool, true, false, not, cond, _||_}
+use mathlib.Core.List.{List, [], _∷_}
+use mathlib.Core.Option.{Option, some, none}
 use mathlib.Core.Path.{_≡_, refl}
+use denote.Enum.Declared.{tagOf}
+use lib.Dec.{T}
+use lib.ListN.{length}
+use mir.Val.{hasKey}
+use types.Run.{OneOf, miss}
+use Rattle.protocol.specs.declared.Message.the-variants as M
+use Rattle.protocol.specs.declared.Message.{Message}
+use Rattle.protocol.specs.declared.response.GssEncResponse.the-variants as Gss
+use Rattle.protocol.specs.declared.response.SslResponse.the-variants as Ssl
 use Rattle.protocol.specs.Each.{Each}
 use Rattle.protocol.specs.Fields.{Slot}
-use Rattle.protocol.specs.Kinds.{Kind, Mode, modes, IsIn, the-table}
-use Rattle.protocol.specs.Views.{View, view}
-use Rattle.protocol.proofs.Find.{All, in-all}
+use Rattle.protocol.specs.Kinds.{Kind, Mode, modes, find, modeOf, kindIn, the-table, frontend, backend, cancel, tlsAnswer, gssAnswer}
+use Rattle.protocol.specs.Rules.{rulesOf}
+use Rattle.protocol.specs.Views.{View, view, rows, numbered}
+use Rattle.protocol.proofs.Find.{All, told-row}
+use Rattle.protocol.proofs.Message as Msg
 
-abbrev Viewed : Kind → Type 0
+abbrev pub Viewed : Kind → Type 0
 Viewed k = (s : Each Slot (k .body)) → view (k .message s) ≡ record { kind = k; slots = s }
 
-all-viewed : All (λ (m : Mode). All Viewed (m .kinds)) modes
+-- of each row, which a lookup finds (told-row)
+pub viewed : All (λ (m : Mode). All Viewed (m .kinds)) modes
 unfolding the-table view
-all-viewed = search tt depth 60 fits 5000
+viewed = search tt depth 60 fits 5000
 
-pub viewed : (m : Mode) → IsIn m modes → (k : Kind) → IsIn k (m .kinds) → (s : Each Slot (k .body)) → view (k .message s) ≡ record { kind = k; slots = s }
-viewed m i k j s = in-all Viewed (m .kinds) (in-all (λ (m : Mode). All Viewed (m .kinds)) modes all-viewed m i) k j s
+-- ---- the other way
+
+-- a message's row stands in the table, and makes the message of what it is viewed as
+pub record Made (m : Message) : Type 0 where
+  pub mode : Mode
+  pub known : modeOf (rulesOf (mode .mode)) ≡ some mode
+  pub row : kindIn mode (view m .kind .tag) ≡ some (view m .kind)
+  pub back : view m .kind .message (view m .slots) ≡ m
+
+of : {m : Message} (mode : Mode) → modeOf (rulesOf (mode .mode)) ≡ some mode → kindIn mode (view m .kind .tag) ≡ some (view m .kind) → view m .kind .message (view m .slots) ≡ m → Made m
+of mode known row back = record { mode = mode; known = known; row = row; back = back }
+
+pub made : (m : Message) → Made m
+unfolding the-table find modeOf kindIn view
+made (M.Parse m) = of frontend refl refl refl
+made (M.Bind m) = of frontend refl refl refl
+made (M.Close m) = of frontend refl refl refl
+made (M.Describe m) = of frontend refl refl refl
+made (M.Execute m) = of frontend refl refl refl
+made M.Flush = of frontend refl refl refl
+made M.Sync = of frontend refl refl refl
+made M.CopyDone = of frontend refl refl refl
+made (M.CopyData m) = of frontend refl refl refl
+made (M.CopyFail m) = of frontend refl refl refl
+made M.ParseComplete = of backend refl refl refl
+made M.BindComplete = of backend refl refl refl
+made M.CloseComplete = of backend refl refl refl
+made M.PortalSuspended = of backend refl refl refl
+made M.NoData = of backend refl refl refl
+made M.EmptyQueryResponse = of backend refl refl refl
+made (M.RowDescription m) = of backend refl refl refl
+made (M.ParameterDescription m) = of backend refl refl refl
+made (M.DataRow m) = of backend refl refl refl
+made (M.CommandComplete m) = of backend refl refl refl
+made (M.ReadyForQuery m) = of backend refl refl refl
+made (M.ErrorResponse m) = of backend refl refl refl
+made (M.NoticeResponse m) = of backend refl refl refl
+made (M.CopyInResponse m) = of backend refl refl refl
+made (M.CopyOutResponse m) = of backend refl refl refl
+made (M.CopyBothResponse m) = of backend refl refl refl
+made (M.NotificationResponse m) = of backend refl refl refl
+made (M.CancelRequest m) = of cancel refl refl refl
+made (M.SslResponse Ssl.Accept) = of tlsAnswer refl refl refl
+made (M.SslResponse Ssl.Refuse) = of tlsAnswer refl refl refl
+made (M.GssEncResponse Gss.Accept) = of gssAnswer refl refl refl
+made (M.GssEncResponse Gss.Refuse) = of gssAnswer refl refl refl
+
+-- what holds of each row holds of a message's
+pub each-row : (P : Kind → Type 0) → All (λ (m : Mode). All P (m .kinds)) modes → (m : Message) → P (view m .kind)
+each-row P h m = let r = made m in told-row P h (rulesOf (r .mode .mode)) (view m .kind .tag) (r .known) (r .row)
+
+-- ---- the last arm of a `match` on a message, which is told the places of the variants that are left
+
+-- the places of the kinds that pass a test: the variants of `Message` stand in the order of the kinds' numbers, which begin at 1
+abbrev placeOf : (Kind → Bool) → Option Kind → ℕ → List ℕ → List ℕ
+placeOf test none n later = []
+placeOf test (some k) n later = cond (test k) (n ∷ later) later
+
+abbrev placesFrom : (Kind → Bool) → ℕ → ℕ → List ℕ
+placesFrom test zero n = []
+placesFrom test (suc turns) n = placeOf test (numbered (suc n)) n (placesFrom test turns (suc n))
+
+abbrev pub places : (Kind → Bool) → List ℕ
+places test = placesFrom test (length rows) 0
+
+-- what holds unless x is none of some numbers
+if-key : (ts : List ℕ) (x : ℕ) (t : Bool) → OneOf ts x → T (not (hasKey ts x) || t) → T t
+if-key ts x t is h = by (hasKey ts x) (miss ts x) h
+  where
+    by : (has : Bool) → (T (not has) → OneOf ts x → ⊥) → T (not has || t) → T t
+    by true missed h = h
+    by false missed h = absurd (missed tt is)
+
+-- a row is at one of these places only if it passes the test
+abbrev pub Placed : (Kind → Bool) → Kind → Type 0
+Placed test k = (s : Each Slot (k .body)) → T (not (hasKey (places test) (tagOf Msg.the-type (k .message s))) || test k)
+
+-- so a message that is at one of these places has a row that passes
+pub passes : (test : Kind → Bool) → All (λ (m : Mode). All (Placed test) (m .kinds)) modes → (m : Message) → OneOf (places test) (tagOf Msg.the-type m) → T (test (view m .kind))
+passes test h m is =
+    let placed = each-row (Placed test) h m (view m .slots) in
+    if-key (places test) (tagOf Msg.the-type m) (test (view m .kind)) is (rw (made m .back) at placed)

@@ -8,12 +8,14 @@ use lib.ListN.{take}
 use Rattle.protocol.specs.declared.Element.the-variants as E
 use Rattle.protocol.specs.declared.Element.{Element}
 use Rattle.protocol.specs.declared.List.{List as ListSlot}
+use Rattle.protocol.specs.declared.Message.{Message}
 use Rattle.protocol.specs.declared.Rules.{Rules}
 use Rattle.protocol.specs.Bytes.{partOf}
 use Rattle.protocol.specs.Each.{Each}
 use Rattle.protocol.specs.Fields.{AtomSlot, Item, Field, one, counted, ended, Slot}
 use Rattle.protocol.specs.Reading.{Read, got, bad, andThen, readItem, passItems}
 use Rattle.protocol.specs.Refusals.{noSuchElement}
+use Rattle.protocol.specs.Views.{view}
 use Rattle.protocol.specs.Decode.{Header, more, refuse, framed, headerOf, readBody}
 
 -- a list of a frame: the sort of its items, where it starts and how many it has
@@ -29,6 +31,10 @@ listIn (counted k i ∷ xs) zero s = some (record { item = i; list = s .0 })
 listIn (counted k i ∷ xs) (suc l) s = listIn xs l (s .1)
 listIn (ended i ∷ xs) zero s = some (record { item = i; list = s .0 })
 listIn (ended i ∷ xs) (suc l) s = listIn xs l (s .1)
+
+-- list l of a message
+unfoldable pub listOf : Message → ℕ → Option Listed
+listOf m l = listIn (view m .kind .body) l (view m .slots)
 
 -- item n of those that stand from p on
 abbrev pub readItemAt : Rules → (i : Item) → ℕ → List ℕ → ℕ → Read (Each AtomSlot (i .atoms))

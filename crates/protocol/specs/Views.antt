@@ -1,13 +1,18 @@
 -- A message's row, and what its record holds of each field: the inverse of a row's `message`. What is asked of a message by its kind (its name, its
 -- number, its lists) is asked of this.
-use mathlib.Core.List.{List}
+use Prim.Native.Nat.{ℕ}
+use mathlib.Core.Bool.{Bool}
+use mathlib.Core.List.{List, [], _∷_, _++_}
+use mathlib.Core.Option.{Option}
+use lib.Dec.{eqb}
+use lib.ListN.{getD}
 use Rattle.protocol.specs.declared.Message.the-variants as M
 use Rattle.protocol.specs.declared.Message.{Message}
 use Rattle.protocol.specs.declared.response.GssEncResponse.the-variants as Gss
 use Rattle.protocol.specs.declared.response.SslResponse.the-variants as Ssl
 use Rattle.protocol.specs.Each.{Each}
 use Rattle.protocol.specs.Fields.{Slot}
-use Rattle.protocol.specs.Kinds.{Kind, the-table, parse, bind, close, describe, execute, flush, sync, copyDone, copyData, copyFail, parseComplete, bindComplete, closeComplete, portalSuspended, noData, emptyQueryResponse, rowDescription, parameterDescription, dataRow, commandComplete, readyForQuery, errorResponse, noticeResponse, copyInResponse, copyOutResponse, copyBothResponse, notificationResponse, cancelRequest, sslAccept, sslRefuse, gssAccept, gssRefuse}
+use Rattle.protocol.specs.Kinds.{Kind, Mode, modes, find, the-table, parse, bind, close, describe, execute, flush, sync, copyDone, copyData, copyFail, parseComplete, bindComplete, closeComplete, portalSuspended, noData, emptyQueryResponse, rowDescription, parameterDescription, dataRow, commandComplete, readyForQuery, errorResponse, noticeResponse, copyInResponse, copyOutResponse, copyBothResponse, notificationResponse, cancelRequest, sslAccept, sslRefuse, gssAccept, gssRefuse}
 
 pub record View : Type 0 where
   pub kind : Kind
@@ -50,3 +55,25 @@ view (M.SslResponse Ssl.Accept) = is sslAccept tt
 view (M.SslResponse Ssl.Refuse) = is sslRefuse tt
 view (M.GssEncResponse Gss.Accept) = is gssAccept tt
 view (M.GssEncResponse Gss.Refuse) = is gssRefuse tt
+
+-- ---- kinds by their numbers at the boundary
+
+-- a kind's own number, the first of its row's
+abbrev pub kindNumber : Kind → ℕ
+kindNumber k = getD (k .numbers) 0 0
+
+-- a message is of a kind: the number tells
+unfoldable pub isKind : Kind → Message → Bool
+isKind k m = eqb (kindNumber k) (kindNumber (view m .kind))
+
+abbrev rowsOf : List Mode → List Kind
+rowsOf [] = []
+rowsOf (m ∷ ms) = m .kinds ++ rowsOf ms
+
+-- the rows of all modes
+abbrev pub rows : List Kind
+rows = rowsOf modes
+
+-- the row of a number: the first, where two answers have one
+unfoldable pub numbered : ℕ → Option Kind
+numbered n = find kindNumber n rows

@@ -1,13 +1,13 @@
 -- When a message is no row, and when there is room for one.
 use Prim.Native.Nat.{ℕ, _≤_, _<_}
-use mathlib.Core.Bool.{Bool, true, false, cond, _&&_, _||_, false≢true}
+use mathlib.Core.Bool.{Bool, true, false, cond, not, _&&_}
 use mathlib.Core.List.{List, [], _∷_}
 use mathlib.Core.Logic.{_⊎_, inl, inr}
 use mathlib.Core.Option.{Option, some, none}
-use mathlib.Core.Path.{_≡_, refl}
+use mathlib.Core.Path.{_≡_, refl, ap, sym, subst, _∙_}
 use native.Mathlib.Omega.{arith}
-use borrow.Author.Tests.{leb-true, eq-eqb, le-leb, lt-leb}
-use lib.Dec.{eqb, leb}
+use borrow.Author.Tests.{leb-true, le-leb, lt-leb}
+use lib.Dec.{T, eqb, leb}
 use lib.IntN.{ℤ}
 use lib.ListN.{length, take}
 use types.Run.{OneOf}
@@ -16,11 +16,18 @@ use Rattle.protocol.specs.declared.Decoded.the-variants as D
 use Rattle.protocol.specs.declared.Decoded.{Decoded}
 use Rattle.protocol.specs.declared.Message.the-variants as M
 use Rattle.protocol.specs.declared.Message.{Message}
-use Rattle.protocol.specs.Bytes.{isOneOf}
-use Rattle.protocol.proofs.Framed.{framed-is, framed-ends}
-use Rattle.protocol.proofs.Message as T
+use Rattle.protocol.specs.declared.data.DataRow.{DataRow}
 use Rattle.protocol.specs.declared.List.{List as ListSlot}
 use Rattle.protocol.specs.declared.Rules.{Rules}
+use Rattle.protocol.specs.Each.{Each}
+use Rattle.protocol.specs.Elements.{listIn, listOf}
+use Rattle.protocol.specs.Fields.{Slot}
+use Rattle.protocol.specs.Kinds.{Kind, Mode, modes, find, the-table, dataRow}
+use Rattle.protocol.specs.Views.{view, kindNumber, isKind, numbered}
+use Rattle.protocol.proofs.Find.{All}
+use Rattle.protocol.proofs.Framed.{framed-is, framed-ends}
+use Rattle.protocol.proofs.Message as Msg
+use Rattle.protocol.proofs.Views.{made, each-row, places, passes}
 use Rattle.protocol.specs.Decode.{Header, more, refuse, framed, headerOf, bodyOf, decodedBy, decodeBy, decodeOf}
 use Rattle.protocol.specs.Reading.{Read, got, bad}
 use Rattle.protocol.specs.Refusals.{noSuchElement, outputTooShort}
@@ -30,56 +37,57 @@ use Rattle.reader.specs.declared.row.Row.{Row}
 use Rattle.reader.specs.Row.{ReadsRow, rowBy, rowFits, rowIn}
 use Rattle.reader.proofs.row.Row as RT
 
-or-true : (a : Bool) → a || true ≡ true
-or-true true = refl
-or-true false = refl
+-- ---- which message is a row
 
--- a number that is one of some passes the test for it
-one-of : (xs : List ℕ) (n : ℕ) → OneOf xs n → isOneOf n xs ≡ true
-unfolding isOneOf
-one-of [] n h = absurd h
-one-of (x ∷ []) n h = rw (eq-eqb n x h) refl
-one-of (x ∷ y ∷ ys) n (inl h) = rw (eq-eqb n x h) refl
-one-of (x ∷ y ∷ ys) n (inr h) = rw (one-of (y ∷ ys) n h) (or-true (eqb n x))
+-- a DataRow's own list
+pub row-in : (r : DataRow) → rowIn (M.DataRow r) ≡ some (r .«data»)
+unfolding rowIn isKind listOf listIn view dataRow
+row-in r = refl
 
--- the places of the other kinds among the message's variants
-abbrev others : List ℕ
-others = 0 ∷ 1 ∷ 2 ∷ 3 ∷ 4 ∷ 5 ∷ 6 ∷ 7 ∷ 8 ∷ 9 ∷ 10 ∷ 11 ∷ 12 ∷ 13 ∷ 14 ∷ 15 ∷ 16 ∷ 17 ∷ 19 ∷ 20 ∷ 21 ∷ 22 ∷ 23 ∷ 24 ∷ 25 ∷ 26 ∷ 27 ∷ 28 ∷ 29 ∷ []
+-- no other kind has its number
+abbrev noRow : Kind → Bool
+noRow k = not (eqb (kindNumber dataRow) (kindNumber k))
 
-no-row : (m : Message) → OneOf others (tagOf T.the-type m) → rowIn m ≡ none
-unfolding isOneOf
-no-row (M.Parse r) h = refl
-no-row (M.Bind r) h = refl
-no-row (M.Close r) h = refl
-no-row (M.Describe r) h = refl
-no-row (M.Execute r) h = refl
-no-row M.Flush h = refl
-no-row M.Sync h = refl
-no-row M.CopyDone h = refl
-no-row (M.CopyData r) h = refl
-no-row (M.CopyFail r) h = refl
-no-row M.ParseComplete h = refl
-no-row M.BindComplete h = refl
-no-row M.CloseComplete h = refl
-no-row M.PortalSuspended h = refl
-no-row M.NoData h = refl
-no-row M.EmptyQueryResponse h = refl
-no-row (M.RowDescription r) h = refl
-no-row (M.ParameterDescription r) h = refl
-no-row (M.DataRow r) h = absurd (false≢true (one-of others 18 h))
-no-row (M.CommandComplete r) h = refl
-no-row (M.ReadyForQuery r) h = refl
-no-row (M.ErrorResponse r) h = refl
-no-row (M.NoticeResponse r) h = refl
-no-row (M.CopyInResponse r) h = refl
-no-row (M.CopyOutResponse r) h = refl
-no-row (M.CopyBothResponse r) h = refl
-no-row (M.NotificationResponse r) h = refl
-no-row (M.CancelRequest r) h = refl
-no-row (M.SslResponse r) h = refl
-no-row (M.GssEncResponse r) h = refl
+no-row-by : (t : Bool) (x : Option ListSlot) → T (not t) → cond t x none ≡ none
+no-row-by true x h = absurd h
+no-row-by false x h = refl
 
-pub refused : (m : Message) → OneOf others (tagOf T.the-type m) → (consumed starts lengths : ℕ) → R.Refused noSuchElement 0 ≡ rowFits (rowIn m) consumed starts lengths
+no-row : (m : Message) → OneOf (places noRow) (tagOf Msg.the-type m) → rowIn m ≡ none
+unfolding the-table find numbered rowIn isKind
+no-row m h = no-row-by (isKind dataRow m) _ (passes noRow (search tt depth 60 fits 5000) m h)
+
+-- so a message that is a row is a DataRow
+abbrev If : Bool → Type 0 → Type 0
+If true P = P
+If false P = Unit {0}
+
+abbrev RowKind : Kind → Type 0
+RowKind k = If (eqb (kindNumber dataRow) (kindNumber k)) (k ≡ dataRow)
+
+row-kinds : All (λ (m : Mode). All RowKind (m .kinds)) modes
+unfolding the-table
+row-kinds = search tt depth 60 fits 5000
+
+of-row : (s : Each Slot (dataRow .body)) → (row : DataRow) × (dataRow .message s ≡ M.DataRow row)
+unfolding dataRow
+of-row s = (record { «data» = s .0 }, refl)
+
+row-made : (k : Kind) (s : Each Slot (k .body)) → k ≡ dataRow → (row : DataRow) × (k .message s ≡ M.DataRow row)
+row-made k s e = subst (λ (k : Kind). (s : Each Slot (k .body)) → (row : DataRow) × (k .message s ≡ M.DataRow row)) (sym e) of-row s
+
+told-by : {P : Type 0} (t : Bool) (x : Option ListSlot) (l : ListSlot) → cond t x none ≡ some l → If t P → P
+told-by true x l e h = h
+told-by false x l e h = let z : _≡_ {A = ℕ} 0 1 = cc in absurd (omega arith)
+
+pub data-row : (m : Message) (l : ListSlot) → rowIn m ≡ some l → (row : DataRow) × (m ≡ M.DataRow row) × (row .«data» ≡ l)
+unfolding rowIn isKind
+data-row m l e =
+    let w = row-made (view m .kind) (view m .slots) (told-by (isKind dataRow m) _ l e (each-row RowKind row-kinds m)) in
+    let is : m ≡ M.DataRow (w .0) = sym (made m .back) ∙ w .1 in
+    let list : some (w .0 .«data») ≡ some l = sym (row-in (w .0)) ∙ ap rowIn (sym is) ∙ e in
+    (w .0, is, cc)
+
+pub refused : (m : Message) → OneOf (places noRow) (tagOf Msg.the-type m) → (consumed starts lengths : ℕ) → R.Refused noSuchElement 0 ≡ rowFits (rowIn m) consumed starts lengths
 unfolding rowFits
 refused m h consumed starts lengths = rw (no-row m h) refl
 

@@ -10,14 +10,16 @@ use lib.ListN.{length, take, drop}
 use Rattle.protocol.specs.declared.Decoded.the-variants as D
 use Rattle.protocol.specs.declared.Decoded.{Decoded}
 use Rattle.protocol.specs.declared.List.{List as ListSlot}
-use Rattle.protocol.specs.declared.Message.the-variants as M
 use Rattle.protocol.specs.declared.Message.{Message}
 use Rattle.protocol.specs.declared.Span.{Span}
 use Rattle.protocol.specs.Answers.{Answer, success, needsMore, refusal}
 use Rattle.protocol.specs.Decode.{decodeOf}
+use Rattle.protocol.specs.Elements.{Listed, listOf}
+use Rattle.protocol.specs.Kinds.{dataRow}
 use Rattle.protocol.specs.Reading.{Read, got, bad, readValue}
 use Rattle.protocol.specs.Refusals.{noSuchElement, outputTooShort}
 use Rattle.protocol.specs.Rules.{rulesOf}
+use Rattle.protocol.specs.Views.{isKind}
 use Rattle.reader.specs.declared.row.Entry.the-variants as E
 use Rattle.reader.specs.declared.row.Entry.{Entry}
 use Rattle.reader.specs.declared.row.Row.the-variants as R
@@ -57,38 +59,13 @@ placesFrom (suc n) f p = placesBy (entryOf (readValue f p)) (placesFrom n f)
 
 -- ---- the answer
 
--- a row's values, where the message is a row
-abbrev pub rowIn : Message → Option ListSlot
-rowIn (M.DataRow r) = some (r .«data»)
-rowIn (M.Parse r) = none
-rowIn (M.Bind r) = none
-rowIn (M.Close r) = none
-rowIn (M.Describe r) = none
-rowIn (M.Execute r) = none
-rowIn (M.CopyData r) = none
-rowIn (M.CopyFail r) = none
-rowIn (M.RowDescription r) = none
-rowIn (M.ParameterDescription r) = none
-rowIn (M.CommandComplete r) = none
-rowIn (M.ReadyForQuery r) = none
-rowIn (M.ErrorResponse r) = none
-rowIn (M.NoticeResponse r) = none
-rowIn (M.CopyInResponse r) = none
-rowIn (M.CopyOutResponse r) = none
-rowIn (M.CopyBothResponse r) = none
-rowIn (M.NotificationResponse r) = none
-rowIn (M.CancelRequest r) = none
-rowIn (M.SslResponse r) = none
-rowIn (M.GssEncResponse r) = none
-rowIn M.Flush = none
-rowIn M.Sync = none
-rowIn M.CopyDone = none
-rowIn M.ParseComplete = none
-rowIn M.BindComplete = none
-rowIn M.CloseComplete = none
-rowIn M.PortalSuspended = none
-rowIn M.NoData = none
-rowIn M.EmptyQueryResponse = none
+-- a row's values, where the message is a row: its list 0
+abbrev slotOf : Option Listed → Option ListSlot
+slotOf none = none
+slotOf (some l) = some (l .list)
+
+unfoldable pub rowIn : Message → Option ListSlot
+rowIn m = cond (isKind dataRow m) (slotOf (listOf m 0)) none
 
 -- the values and the bytes consumed, where both lists have room; 9 where they have not, 11 where the message is no row
 unfoldable pub rowFits : Option ListSlot → ℕ → ℕ → ℕ → Row

@@ -5,8 +5,6 @@ use lib.ListN.{take}
 use lib.Seq.{length-take-le}
 use Rattle.protocol.specs.declared.Decoded.the-variants as D
 use Rattle.protocol.specs.Elements.{elementAt}
-use Rattle.element.specs.declared.lists.Lists.{Lists}
-use Rattle.element.specs.Lists.{listedOf}
 use Rattle.element.proofs.Calls.{Answered, answered-as}
 use Rattle.element.proofs.element_by.Statement.{statement}
 use Rattle.element.proofs.element_by.Tie as tie
@@ -21,13 +19,13 @@ slice-aggregate-element-in : tie.Need-slice-aggregate-element-in
 slice-aggregate-element-in c = sym (length-take-le _ _ (record-read (c .before) .0))
 
 element-in-requires : tie.Need-element-in-requires
-element-in-requires c κs = rw (c .lists-of .ensures) (record-read (c .before .before) .1)
+element-in-requires c κs = record-read (c .before .before) .1 (c .list-of .result) (c .list-of .ensures)
 
 returns : tie.Need-returns
 returns c =
     let k = c .before .before .before in
     let a = start k .args in
-    c .element-in .ensures ∙ ap (λ (lists : Lists). elementAt (a .rules) (take (k .before .message .given .0 .1 .0) (a .buf .now)) (a .number) (listedOf lists)) (c .before .lists-of .ensures) ∙ record-read k .2 _
+    c .element-in .ensures ∙ ap (elementAt (a .rules) (take (k .before .message .given .0 .1 .0) (a .buf .now)) (a .number)) (c .before .list-of .ensures) ∙ record-read k .2 _
 
 returns-2 : tie.Need-returns-2
 returns-2 c = answered-as _ _ _ D.NeedMore (sym (c .before .before .decode-by .ensures) ∙ c .enum-told .given .1) _

@@ -13,14 +13,14 @@ returns c = rw (c .enum-told .given .1) refl
 
 returns-2 : tie.Need-returns-2
 unfolding elementAt
-returns-2 c = rw (c .before .before .lists .given .1, le-ltb _ _ (c .if1 .taken)) refl
+returns-2 c = rw (c .before .before .list .given .1, le-ltb _ _ (c .if1 .taken)) refl
 
 item-at-requires : tie.Need-item-at-requires
-item-at-requires c κs = fits-at _ _ _ _ _ (c .before .before .lists .given .1) (c .if1 .left) (c .before .before .before .before .before .pre)
+item-at-requires c κs = fits-at _ _ _ _ _ (c .before .before .list .given .1) (c .if1 .left) (c .before .before .before .before .before .pre)
 
 returns-3 : tie.Need-returns-3
 unfolding elementAt
-returns-3 c = c .item-at .ensures ∙ rw (c .before .before .before .lists .given .1, lt-ltb _ _ (c .before .if1 .left)) refl
+returns-3 c = c .item-at .ensures ∙ rw (c .before .before .before .list .given .1, lt-ltb _ _ (c .before .if1 .left)) refl
 
 pub element-in-spec : {M : Type 1} → statement M
 element-in-spec =

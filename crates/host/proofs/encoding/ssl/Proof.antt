@@ -1,6 +1,6 @@
 -- `host::encoding::ssl` meets its contract: each arm is a row of the table.
 use mathlib.Core.Path.{refl}
-use Rattle.protocol.specs.Kinds.{find}
+use Rattle.protocol.specs.Kinds.{find, the-table}
 use Rattle.host.specs.Asked.{askedIn, sslRows}
 use Rattle.host.proofs.Choices.{arm, unknown}
 use borrow.Author.Needs.{needs}
@@ -8,14 +8,15 @@ use Rattle.host.proofs.encoding.ssl.Statement.{statement}
 use Rattle.host.proofs.encoding.ssl.Tie as tie
 
 returns : tie.Need-returns
-unfolding askedIn find
+unfolding the-table askedIn find
 returns c = arm sslRows (c .before .before .before .before .match .keys1) (c .before .before .ssl-response .ensures) refl
 
 returns-2 : tie.Need-returns-2
-unfolding askedIn find
+unfolding the-table askedIn find
 returns-2 c = arm sslRows (c .before .before .before .before .match .keys2) (c .before .before .ssl-response2 .ensures) refl
 
 returns-3 : tie.Need-returns-3
+unfolding the-table
 returns-3 c = unknown sslRows _ (c .match .rest)
 
 pub ssl-spec : {M : Type 1} → statement M

@@ -1,11 +1,12 @@
 -- `host_parts::reading::row_numbers` meets its contract: case by case of the answer.
+use Rattle.protocol.specs.Kinds.{dataRow}
 use Rattle.host_parts.specs.Reads.{rowOut}
 use borrow.Author.Needs.{needs}
 use Rattle.host_parts.proofs.reading.row_numbers.Statement.{statement}
 use Rattle.host_parts.proofs.reading.row_numbers.Tie as tie
 
 returns : tie.Need-returns
-unfolding rowOut
+unfolding rowOut dataRow
 returns c = rw (c .before .before .row .given .1) (c .one-list .ensures)
 
 returns-2 : tie.Need-returns-2

@@ -1,24 +1,49 @@
--- Of each kind: the lists of its body are those of its message, and where they were read their items of one size stand within the frame.
+-- Where a body was read, the items of one size of each of its lists stand within the frame.
 use Prim.Native.Nat.{ℕ, zero, suc, _+_, _*_, _≤_}
+use mathlib.Core.Bool.{Bool, true, false}
 use mathlib.Core.List.{List, [], _∷_}
+use mathlib.Core.Option.{some}
 use mathlib.Core.Path.{_≡_, refl, ap, _∙_}
 use native.Mathlib.Omega.{arith}
+use lib.Dec.{T}
 use lib.ListN.{length}
 use Rattle.protocol.specs.declared.List.{List as ListSlot}
 use Rattle.protocol.specs.declared.Rules.{Rules}
 use Rattle.protocol.specs.Each.{Each, leastOfEach}
-use Rattle.protocol.specs.Elements.{listIn}
-use Rattle.protocol.specs.Fields.{Item, itemLeast, Count, signedCount, Field, one, counted, ended, Slot}
-use Rattle.protocol.specs.Kinds.{Kind, Mode, modes, modeOf, kindIn, frontend, backend, errorField, bind}
+use Rattle.protocol.specs.Elements.{Listed, listIn}
+use Rattle.protocol.specs.Fields.{Atom, unsigned, signed, oneOf, text, value, rest, Item, itemLeast, Count, Field, one, counted, ended, Slot}
+use Rattle.protocol.specs.Kinds.{Kind, Mode, modes, the-table}
 use Rattle.protocol.specs.Reading.{Read, got, bad, andThen, read, readEach, passItems, readCount, readCounted}
 use Rattle.protocol.proofs.Counts.{counted-is}
-use Rattle.protocol.proofs.Find.{All, find-all, numberOf, tagOf}
-use Rattle.protocol.proofs.Framed.{Framed}
-use Rattle.protocol.specs.Kinds.{the-table}
-use Rattle.element.specs.declared.lists.Lists.{Lists}
-use Rattle.element.specs.declared.lists.Sort.the-variants as S
-use Rattle.element.specs.declared.lists.Sort.{Sort}
-use Rattle.element.specs.Lists.{itemOf, listedOf, only, listsOf, FitsSort, Fits}
+use Rattle.protocol.proofs.Find.{All}
+use Rattle.element.specs.declared.list.OneList.the-variants as L
+use Rattle.element.specs.declared.list.OneList.{OneList}
+use Rattle.element.specs.declared.list.Sort.the-variants as S
+use Rattle.element.specs.declared.list.Sort.{Sort}
+use Rattle.element.specs.OneList.{itemOf, listedOf, FitsSort, Fits}
+
+-- ---- a list that ends in zero has items of several sizes: no count tells that they fit
+
+abbrev varies : List Atom → Bool
+varies [] = false
+varies (unsigned w ∷ xs) = varies xs
+varies (signed w ∷ xs) = varies xs
+varies (oneOf bs ∷ xs) = varies xs
+varies (text ∷ xs) = true
+varies (value ∷ xs) = true
+varies (rest ∷ xs) = true
+
+abbrev endedVaries : Field → Bool
+endedVaries (one a) = true
+endedVaries (counted k i) = true
+endedVaries (ended i) = varies (i .atoms)
+
+abbrev pub EndedVary : List Field → Type 0
+EndedVary xs = All (λ (x : Field). T (endedVaries x)) xs
+
+pub ended-vary : All (λ (m : Mode). All (λ (k : Kind). EndedVary (k .body)) (m .kinds)) modes
+unfolding the-table
+ended-vary = search tt depth 60 fits 5000
 
 module _ (f : List ℕ) where
   -- the items of list l stand within the frame, if it has a count
@@ -78,10 +103,7 @@ module _ (f : List ℕ) where
       let o = first-by (ended i) xs s q rules p (read rules (ended i) f p) h in
       read-fits rules xs l (o .0) q (s .1) (o .2)
 
-  -- ---- the message's lists are the body's
-
-  abbrev SameLists : (xs : List Field) → Each Slot xs → ℕ → Lists → Type 0
-  SameLists xs s l lists = (listIn xs l s ≡ listedOf lists) × (ListFits xs l s → Fits f lists)
+  -- ---- of a list that the code found
 
   fits-sort : (sort : Sort) (x : ListSlot) → x .start + x .count * itemLeast (itemOf sort) ≤ length f → FitsSort f x sort
   unfolding itemLeast leastOfEach
@@ -91,39 +113,27 @@ module _ (f : List ℕ) where
   fits-sort S.Field x h = tt
   fits-sort S.ErrorField x h = tt
 
-  one-list : (sort : Sort) (x : ListSlot) (l : ℕ) → SameLists (counted signedCount (itemOf sort) ∷ []) (x, tt) l (only sort x l)
-  unfolding listIn
-  one-list sort x zero = (refl, fits-sort sort x)
-  one-list sort x (suc l) = (refl, λ h. tt)
+  fits-varied : (sort : Sort) (x : ListSlot) → T (varies (itemOf sort .atoms)) → FitsSort f x sort
+  fits-varied S.Oid x h = absurd h
+  fits-varied S.Format x h = absurd h
+  fits-varied S.Value x h = tt
+  fits-varied S.Field x h = tt
+  fits-varied S.ErrorField x h = tt
 
-  error-list : (x : ListSlot) (l : ℕ) → SameLists (ended errorField ∷ []) (x, tt) l (only S.ErrorField x l)
-  unfolding listIn
-  error-list x zero = (refl, λ h. tt)
-  error-list x (suc l) = (refl, λ h. tt)
+  module _ (sort : Sort) (x : ListSlot) where
+    found-fits : (xs : List Field) (l : ℕ) (s : Each Slot xs) → EndedVary xs → ListFits xs l s → some (record { item = itemOf sort; list = x }) ≡ listIn xs l s → FitsSort f x sort
+    unfolding listIn
+    found-fits [] l s v h e = let z : _≡_ {A = ℕ} 0 1 = cc in absurd (omega arith)
+    found-fits (one a ∷ xs) l s v h e = found-fits xs l (s .1) (v .1) h e
+    found-fits (counted k i ∷ xs) zero s v h e =
+        let same : _≡_ {A = Listed} (record { item = itemOf sort; list = x }) (record { item = i; list = s .0 }) = cc in
+        fits-sort sort x (rw (ap (λ (y : Listed). y .item) same, ap (λ (y : Listed). y .list) same) h)
+    found-fits (counted k i ∷ xs) (suc l) s v h e = found-fits xs l (s .1) (v .1) h e
+    found-fits (ended i ∷ xs) zero s v h e =
+        let same : _≡_ {A = Listed} (record { item = itemOf sort; list = x }) (record { item = i; list = s .0 }) = cc in
+        fits-varied sort x (rw (ap (λ (y : Listed). y .item) same) (v .0))
+    found-fits (ended i ∷ xs) (suc l) s v h e = found-fits xs l (s .1) (v .1) h e
 
-  abbrev pub Same : Kind → Type 0
-  Same k = (s : Each Slot (k .body)) (l : ℕ) → SameLists (k .body) s l (listsOf (k .message s) l)
-
-  bind-same : Same bind
-  unfolding bind listIn listsOf itemLeast leastOfEach
-  bind-same s zero = (refl, λ h. h)
-  bind-same s (suc zero) = (refl, λ h. tt)
-  bind-same s (suc (suc zero)) = (refl, λ h. h)
-  bind-same s (suc (suc (suc l))) = (refl, λ h. tt)
-
-  frontend-same : All Same (frontend .kinds)
-  unfolding the-table listIn listsOf
-  frontend-same = (λ s l. one-list S.Oid (s .1 .1 .0) l, (bind-same, (λ s l. (refl, λ h. tt), (λ s l. (refl, λ h. tt), (λ s l. (refl, λ h. tt), (λ s l. (refl, λ h. tt), (λ s l. (refl, λ h. tt), (λ s l. (refl, λ h. tt), (λ s l. (refl, λ h. tt), (λ s l. (refl, λ h. tt), tt))))))))))
-
-  backend-same : All Same (backend .kinds)
-  unfolding the-table listIn listsOf
-  backend-same = (λ s l. (refl, λ h. tt), (λ s l. (refl, λ h. tt), (λ s l. (refl, λ h. tt), (λ s l. (refl, λ h. tt), (λ s l. (refl, λ h. tt), (λ s l. (refl, λ h. tt), (λ s l. (refl, λ h. tt), (λ s l. one-list S.Field (s .0) l, (λ s l. one-list S.Oid (s .0) l, (λ s l. one-list S.Value (s .0) l, (λ s l. (refl, λ h. tt), (λ s l. (refl, λ h. tt), (λ s l. error-list (s .0) l, (λ s l. error-list (s .0) l, (λ s l. one-list S.Format (s .1 .0) l, (λ s l. one-list S.Format (s .1 .0) l, (λ s l. one-list S.Format (s .1 .0) l, (λ s l. (refl, λ h. tt), (λ s l. (refl, λ h. tt), tt)))))))))))))))))))
-
-  all-same : All (λ (m : Mode). All Same (m .kinds)) modes
-  unfolding the-table listIn listsOf
-  all-same = (frontend-same, (backend-same, ((λ s l. (refl, λ h. tt), tt), ((λ s l. (refl, λ h. tt), (λ s l. (refl, λ h. tt), tt)), ((λ s l. (refl, λ h. tt), (λ s l. (refl, λ h. tt), tt)), tt)))))
-
-  pub kind-same : (rules : Rules) (s : List ℕ) (k : Kind) (start end : ℕ) → Framed rules s k start end → Same k
-  unfolding modeOf kindIn
-  kind-same rules s k start end w =
-      find-all tagOf Same (w .mode .kinds) _ k (find-all numberOf (λ (m : Mode). All Same (m .kinds)) modes (rules .mode) (w .mode) all-same (w .known)) (w .tag)
+  pub list-fits : (xs : List Field) (l : ℕ) (s : Each Slot xs) → EndedVary xs → ListFits xs l s → (r : OneList) → listedOf r ≡ listIn xs l s → Fits f r
+  list-fits xs l s v h (L.Is sort x) e = found-fits sort x xs l s v h e
+  list-fits xs l s v h L.NoList e = tt

@@ -1,15 +1,19 @@
-// The name of each kind, the Rust's type name, as a part of one table.
-// Inner: for crates of this library alone (docs/INNER.md).
-ghost use Rattle.names.specs.Table.{NameAt};
+// The name of each kind, the Rust's type name, as a part of one text.
+ghost use Prim.Native.Nat.{_+_, _≤_};
+ghost use lib.ListN.{length};
+ghost use Rattle.protocol.specs.Names.{lettersOf, nameOf};
+ghost use Rattle.listing.specs.Names.{NameAt};
+ghost use Rattle.listing.specs.Text.{Wrote};
+use crate::text::put_part;
 use protocol::Message;
 
-// Where a name begins in the table, and its length.
-pub struct Name {
-    pub at: usize,
-    pub len: usize,
+// Where a name begins in the text, and its length.
+struct Name {
+    at: usize,
+    len: usize,
 }
 
-pub fn name_of(message: Message) -> Name
+fn name_of(message: Message) -> Name
     ensures { λ r. ⌜ NameAt message (r .at) (r .len) ⌝ }
 {
     match message {
@@ -44,4 +48,22 @@ pub fn name_of(message: Message) -> Name
         Message::SslResponse(_) => Name { at: 341, len: 11 },
         Message::GssEncResponse(_) => Name { at: 353, len: 14 },
     }
+}
+
+// A kind's name.
+pub fn put_name(out: &mut [u8], at: usize, message: Message) -> usize
+    requires { ⌜ at + 20 ≤ length (now out) ⌝ }
+    ensures { λ r. ⌜ Wrote (now (out .entry)) at (lettersOf (nameOf message)) (now (out .exit)) r ⌝ }
+    ensures { λ r. ⌜ r ≤ at + 20 ⌝ }
+{
+    let name = name_of(message);
+    let start = name.at;
+    let len = name.len;
+    put_part(
+        out,
+        at,
+        b"Parse Bind Close Describe Execute Flush Sync CopyDone CopyData CopyFail ParseComplete BindComplete CloseComplete PortalSuspended NoData EmptyQueryResponse RowDescription ParameterDescription DataRow CommandComplete ReadyForQuery ErrorResponse NoticeResponse CopyInResponse CopyOutResponse CopyBothResponse NotificationResponse CancelRequest SslResponse GssEncResponse ",
+        start,
+        len,
+    )
 }
