@@ -42,19 +42,6 @@ pub fn row_description(fields: &[FieldDescription], run: &[u8], out: &mut [u8]) 
     r
 }
 
-// Doors for callers that have one field or two by value. Walked by hand: the array is lent.
-pub fn row_description_of_one(fields: [FieldDescription; 1], run: &[u8], out: &mut [u8]) -> Encoded
-    ensures { λ r. ⌜ Encodes K.backend K.rowDescription (G.rowDescription fields (now (run .entry))) (now (out .entry)) r (now (out .exit)) ⌝ }
-{
-    row_description(&fields, run, out)
-}
-
-pub fn row_description_of_two(fields: [FieldDescription; 2], run: &[u8], out: &mut [u8]) -> Encoded
-    ensures { λ r. ⌜ Encodes K.backend K.rowDescription (G.rowDescription fields (now (run .entry))) (now (out .entry)) r (now (out .exit)) ⌝ }
-{
-    row_description(&fields, run, out)
-}
-
 fn write_parameter_description(types: &[u32], n: usize, out: &mut [u8])
     requires { ⌜ (n ≡ 4 * length (now types) + 7) × (n ≤ length (now out)) × (n ≤ K.largeFrame) × (length (now types) ≤ 32767) ⌝ }
     ensures { λ r. ⌜ Framed K.typed K.parameterDescription (G.parameterDescription (now (types .entry))) (now (out .entry)) (now (out .exit)) ⌝ }
