@@ -1,4 +1,3 @@
-pub mod GivenMeasures
 pub mod Measures
 pub mod Rows
 pub mod Shapes

@@ -1,6 +1,6 @@
 -- From the two passes over a row's fields to the promise of `row_description`.
 use Prim.Native.Nat.{ℕ, _+_, _-_, _≤_, _<_}
-use mathlib.Core.Bool.{Bool, true, false, cond, _&&_, and-false}
+use mathlib.Core.Bool.{Bool, true, false, cond, _&&_, and-true, and-false}
 use mathlib.Core.List.{List, []}
 use mathlib.Core.Option.{Option, some, none, Option·map}
 use mathlib.Core.Path.{_≡_, refl, ap, _∙_, sym}
@@ -17,13 +17,13 @@ use Rattle.protocol.specs.Fields.{able, bytes, itemsAble, itemsBytes}
 use Rattle.protocol.specs.Kinds as K
 use Rattle.protocol.specs.Rules.{rulesOf}
 use Rattle.protocol.specs.WellFormed.{Contents, bodyBytes, header}
+use Rattle.protocol.proofs.Basics.{none-some, and-left, and-right}
 use Rattle.writers.specs.Writing.{write, Wrote, Framed}
 use Rattle.writers.proofs.Encoding.{Measured, Judged, ableOf, framed, judged, roomOf, refused, finished}
-use Rattle.writers.proofs.Laws.{_then_, nothing}
-use Rattle.writers.proofs.Lists.{and-true, and-left, and-right}
+use Rattle.writers.proofs.Laws.{_then_, nothing, length-write}
 use Rattle.row_fields.specs.declared.Pen.{Pen}
 use Rattle.row_fields.specs.Passes.{allPen, allOut, answered, begun, blank, writer}
-use Rattle.row_fields.proofs.Whole.{rows, allNamed, allInside, total, given-is, length-rows, able-rows, length-rows-bytes, pen-ok, pen-at, length-write, nothing-written, all-written}
+use Rattle.row_fields.proofs.Whole.{rows, allNamed, allInside, total, given-is, length-rows, able-rows, length-rows-bytes, pen-ok, pen-at, nothing-written, all-written}
 use Rattle.encode.specs.Given as G
 
 module _ (fs : List FieldDescription) (run : List ℕ) where
@@ -52,7 +52,7 @@ module _ (fs : List FieldDescription) (run : List ℕ) where
   size-content true e c is =
       let s : (rows fs run, tt) ≡ c = cc in
       rw (← s) (omega (arith, length-append (itemsBytes K.rowField (rows fs run)) [], length-rows-bytes fs run e))
-  size-content false e c is = let z : _≡_ {A = ℕ} 0 1 = cc in absurd (omega arith)
+  size-content false e c is = absurd (none-some is)
 
   pub measures : Measured K.backend K.rowDescription (G.rowDescription fs run) 1048576 (leb (length fs) 32767 && allNamed fs run) (2 + total fs)
   unfolding K.backend K.rowDescription

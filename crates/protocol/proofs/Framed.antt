@@ -8,21 +8,18 @@ use native.Mathlib.Omega.{arith}
 use borrow.Author.Tests.{ltb-false, eqb-false}
 use lib.Dec.{T, leb, leb→le, ltb, eqb}
 use lib.IntN.{ℤ, pos, negsuc}
-use lib.ListN.{length}
+use lib.ListN.{length, take}
+use Rattle.protocol.specs.declared.Body.the-variants as B
+use Rattle.protocol.specs.declared.Body.{Body}
+use Rattle.protocol.specs.declared.Decoded.the-variants as D
+use Rattle.protocol.specs.declared.Message.{Message}
 use Rattle.protocol.specs.declared.Rules.{Rules}
 use Rattle.protocol.specs.Bytes.{numberAt, signedOf}
-use Rattle.protocol.specs.Decode.{Header, more, refuse, framed, lengthBy, typedBy, untypedBy, bareBy, tagAt, headerIn, headerBy, headerOf}
+use Rattle.protocol.specs.Decode.{Header, more, refuse, framed, lengthBy, typedBy, untypedBy, bareBy, tagAt, headerIn, headerBy, headerOf, bodyOf, decodedBy, decodeBy, decodeOf}
 use Rattle.protocol.specs.Kinds.{Envelope, typed, untyped, bare, Kind, Mode, modes, modeOf, kindIn, the-table}
 use Rattle.protocol.specs.WellFormed.{bodyStart, lengthOf}
+use Rattle.protocol.proofs.Basics.{more-framed, refuse-framed, waits-record, refused-record}
 use Rattle.protocol.proofs.Find.{every, find-every, numberOf, tagOf}
-
--- ---- two kinds of header are never equal
-
-more-framed : {k : Kind} {a b : ℕ} → more ≡ framed k a b → ⊥
-more-framed e = let z : _≡_ {A = ℕ} 0 1 = cc in omega arith
-
-refuse-framed : {k : Kind} {n p a b : ℕ} → refuse n p ≡ framed k a b → ⊥
-refuse-framed e = let z : _≡_ {A = ℕ} 0 1 = cc in omega arith
 
 -- a test that chose the second of two headers
 chosen : (t : Bool) (a b h : Header) → ((a ≡ h) → ⊥) → cond t a b ≡ h → (t ≡ false) × (b ≡ h)
@@ -124,3 +121,29 @@ unfolding modeOf kindIn
 framed-ends rules s k start end f =
     let m = find-every numberOf roomyMode modes (rules .mode) (f .mode) all-roomy (f .known) in
     ends-by (f .mode .envelope) k s end (find-every tagOf (roomyKind (f .mode .envelope)) (f .mode .kinds) _ k m (f .tag)) (f .framing)
+
+-- ---- a frame that was decoded
+
+starts-within : (e : Envelope) → 1 ≤ bodyStart e
+starts-within typed = omega arith
+starts-within untyped = omega arith
+starts-within bare = omega arith
+
+size-by : (rules : Rules) (s : List ℕ) (h : Header) {m : Message} {n : ℕ} → headerOf rules s ≡ h → decodeBy rules s h ≡ D.Record m n → (1 ≤ n) × (n ≤ length s)
+unfolding decodeBy decodedBy
+size-by rules s more q e = absurd (waits-record e)
+size-by rules s (refuse number place) q e = absurd (refused-record e)
+size-by rules s (framed k start end) {m} {n} q e =
+    let f = framed-is rules s k start end q in
+    let b = framed-ends rules s k start end f in
+    let x = consumed (bodyOf rules k (take end s) start) e in
+    (omega (arith, b .0, starts-within (f .mode .envelope)), omega (arith, b .1))
+  where
+    consumed : (b : Body) → decodedBy b end ≡ D.Record m n → end ≡ n
+    consumed (B.Is x) e = cc
+    consumed (B.Refused number place) e = absurd (refused-record e)
+
+-- it has a byte at least, and all that is consumed is in the buffer
+pub record-size : (rules : Rules) (s : List ℕ) {m : Message} {n : ℕ} → decodeOf rules s ≡ D.Record m n → (1 ≤ n) × (n ≤ length s)
+unfolding decodeOf
+record-size rules s e = size-by rules s (headerOf rules s) refl e

@@ -12,6 +12,7 @@ use lib.Seq.{length-take-le, take-nil, take-take}
 use Rattle.protocol.specs.Bytes.{numberAt, signedOf}
 use Rattle.protocol.specs.Reading.{got, bad, readNumber}
 use Rattle.protocol.specs.Refusals.{cut}
+use Rattle.protocol.proofs.Basics.{got-bad, bad-got}
 
 -- a number that was read
 pub record Whole (w : ℕ) (f : List ℕ) (p n q : ℕ) : Type 0 where
@@ -25,7 +26,7 @@ whole-by w f p n q true l e =
     let eq : p + w ≡ q = cc in
     let h : p + w ≤ length f = leb-true _ _ l in
     record { fits = omega arith; next = sym eq; is = sym en }
-whole-by w f p n q false l e = let z : _≡_ {A = ℕ} 0 1 = cc in absurd (omega arith)
+whole-by w f p n q false l e = absurd (bad-got e)
 
 pub whole : (w : ℕ) (f : List ℕ) (p n q : ℕ) → readNumber w f p ≡ got n q → Whole w f p n q
 unfolding readNumber
@@ -33,7 +34,7 @@ whole w f p n q e = whole-by w f p n q (leb (p + w) (length f)) refl e
 
 -- a number that was not
 cut-by : (w : ℕ) (f : List ℕ) (p k q : ℕ) (t : Bool) → leb (p + w) (length f) ≡ t → cond t (got (numberAt w f p) (p + w)) (bad cut p) ≡ bad k q → length f < p + w
-cut-by w f p k q true l e = let z : _≡_ {A = ℕ} 0 1 = cc in absurd (omega arith)
+cut-by w f p k q true l e = absurd (got-bad e)
 cut-by w f p k q false l e = leb-false _ _ l
 
 pub not-whole : (w : ℕ) (f : List ℕ) (p k q : ℕ) → readNumber w f p ≡ bad k q → length f < p + w

@@ -9,7 +9,7 @@ use Rattle.protocol.specs.declared.Encoded.the-variants as N
 use Rattle.protocol.specs.Kinds.{largeFrame}
 use Rattle.writers.specs.Writing.{verdictOf}
 use Rattle.writers.proofs.Encoding.{room-by}
-use Rattle.writers.proofs.Lists.{and-left}
+use Rattle.protocol.proofs.Basics.{and-left}
 use Rattle.row_fields.specs.declared.Pen.{Pen}
 use Rattle.row_fields.specs.Passes.{answered}
 

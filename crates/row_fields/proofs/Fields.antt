@@ -15,7 +15,7 @@ use Rattle.protocol.specs.Fields.{atomBytes, itemBytes}
 use Rattle.protocol.specs.Kinds.{rowField}
 use Rattle.writers.specs.Writing.{write, Wrote}
 use Rattle.writers.proofs.Laws.{_then_}
-use Rattle.writers.proofs.Lists.{and-left, and-right}
+use Rattle.protocol.proofs.Basics.{and-left, and-right}
 use Rattle.row_fields.specs.declared.Pen.{Pen}
 use Rattle.row_fields.specs.Passes.{passed, numbers, after, stepPen, stepOut}
 

@@ -1,13 +1,13 @@
 -- The two passes together: what is measured is what the arguments' content needs, and what is written is its bytes.
 use Prim.Native.Nat.{ℕ, _+_, _≤_, _<_, min}
-use mathlib.Core.Bool.{Bool, true, false, cond, _&&_, and-assoc}
+use mathlib.Core.Bool.{Bool, true, false, cond, _&&_, and-true, and-assoc}
 use mathlib.Core.List.{List, [], _∷_, map}
 use mathlib.Core.Option.{some, none}
 use mathlib.Core.Path.{_≡_, refl, ap, _∙_, sym}
 use native.Mathlib.Omega.{arith}
 use borrow.Author.Tests.{leb-true, le-leb}
 use lib.Dec.{leb}
-use lib.ListN.{length, take, drop, set, length-append, length-set}
+use lib.ListN.{length, take, drop, length-append}
 use Rattle.protocol.specs.declared.Rules.{Rules}
 use Rattle.protocol.specs.declared.data.FieldDescription.{FieldDescription}
 use Rattle.protocol.specs.Bytes.{be, noZero}
@@ -15,9 +15,9 @@ use Rattle.protocol.specs.Each.{bytesOfEach, ableEach}
 use Rattle.protocol.specs.Encode.{oneBefore, rowFieldGiven, rowFieldsGiven}
 use Rattle.protocol.specs.Fields.{ItemContent, atomBytes, atomAble, itemBytes, itemAble, itemsBytes, itemsAble}
 use Rattle.protocol.specs.Kinds.{rowField}
+use Rattle.protocol.proofs.Basics.{and-left, and-right}
 use Rattle.writers.specs.Writing.{write}
-use Rattle.writers.proofs.Laws.{write-append}
-use Rattle.writers.proofs.Lists.{and-true, and-left, and-right}
+use Rattle.writers.proofs.Laws.{write-append, length-write}
 use Rattle.row_fields.specs.declared.Pen.{Pen}
 use Rattle.row_fields.specs.Passes.{passed, named, after, stepPen, stepOut, allPen, allOut}
 use Rattle.row_fields.proofs.Fields.{part-length, inside, kept}
@@ -104,10 +104,6 @@ pen-at (f ∷ fs) run c h =
     omega (arith, r)
 
 -- ---- what a pass writes
-
-pub length-write : (d : List ℕ) (p : ℕ) (xs : List ℕ) → length (write d p xs) ≡ length d
-length-write d p [] = refl
-length-write d p (x ∷ xs) = length-write (set d p x) (p + 1) xs ∙ length-set d p x
 
 -- a name that was looked at is not looked at again
 again : (t : Bool) (f : FieldDescription) (run : List ℕ) → named f run ≡ true → passed t f run ≡ true

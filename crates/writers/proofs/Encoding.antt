@@ -10,12 +10,12 @@ use lib.Dec.{leb, ltb}
 use lib.ListN.{length, drop, length-append}
 use Rattle.protocol.specs.declared.Encoded.the-variants as N
 use Rattle.protocol.specs.declared.Encoded.{Encoded}
-use Rattle.protocol.specs.Bytes.{be}
 use Rattle.protocol.specs.Encode.{encodedBy, writtenBy, Encodes}
 use Rattle.protocol.specs.Kinds.{Envelope, typed, untyped, bare, Kind, Mode, largeFrame}
 use Rattle.protocol.specs.Refusals.{lengthAboveLimit, outputTooShort, notRepresentable}
 use Rattle.protocol.specs.Rules.{rulesOf}
 use Rattle.protocol.specs.WellFormed.{Contents, bodyBytes, lengthOf, header, bodyStart, frame, allAble}
+use Rattle.protocol.proofs.Basics.{refused-done, length-header}
 use Rattle.writers.specs.Writing.{write, Wrote, Put, Framed, verdictOf}
 use Rattle.writers.proofs.Laws.{_then_, front}
 use Rattle.writers.proofs.Puts.{Fits, same-size, headed}
@@ -27,12 +27,6 @@ abbrev pub uncounted : Envelope → ℕ
 uncounted typed = 1
 uncounted untyped = 0
 uncounted bare = 0
-
-length-header : (e : Envelope) (tag n : ℕ) → length (header e tag n) ≡ bodyStart e
-unfolding header be
-length-header typed tag n = refl
-length-header untyped tag n = refl
-length-header bare tag n = refl
 
 start-of : (e : Envelope) (n : ℕ) → bodyStart e + n ≡ lengthOf e n + uncounted e
 start-of typed n = omega arith
@@ -139,9 +133,9 @@ pub room-by : (limit size whole room n : ℕ) (able a b : Bool) → ltb limit si
     → cond able (cond a (N.Refused lengthAboveLimit 0) (cond b (N.Refused outputTooShort 0) (N.Done whole))) (N.Refused notRepresentable 0) ≡ N.Done n
     → (able ≡ true) × (n ≡ whole) × (size ≤ limit) × (whole ≤ room)
 room-by limit size whole room n true false false ea eb e = (refl, cc, ltb-false _ _ ea, ltb-false _ _ eb)
-room-by limit size whole room n true true b ea eb e = let z : _≡_ {A = ℕ} 0 1 = cc in absurd (omega arith)
-room-by limit size whole room n true false true ea eb e = let z : _≡_ {A = ℕ} 0 1 = cc in absurd (omega arith)
-room-by limit size whole room n false a b ea eb e = let z : _≡_ {A = ℕ} 0 1 = cc in absurd (omega arith)
+room-by limit size whole room n true true b ea eb e = absurd (refused-done e)
+room-by limit size whole room n true false true ea eb e = absurd (refused-done e)
+room-by limit size whole room n false a b ea eb e = absurd (refused-done e)
 
 -- what is written is a content
 pub record Written (m : Mode) (k : Kind) (given : Option (Contents k)) (room n : ℕ) : Type 0 where
@@ -154,10 +148,7 @@ pub record Written (m : Mode) (k : Kind) (given : Option (Contents k)) (room n :
 
 pub writtenOf : (m : Mode) (k : Kind) (given : Option (Contents k)) {room n : ℕ} {r : Encoded} → Judged m k given room r → r ≡ N.Done n → Written m k given room n
 unfolding encodedBy ableOf
-writtenOf m k none {room} {n} v is =
-    let e : N.Refused notRepresentable 0 ≡ N.Done n = sym (v .answer) ∙ is in
-    let z : _≡_ {A = ℕ} 0 1 = cc in
-    absurd (omega arith)
+writtenOf m k none v is = absurd (refused-done (sym (v .answer) ∙ is))
 writtenOf m k (some c) {room} {n} v is =
     let size = lengthOf (m .envelope) (length (bodyBytes k c)) in
     let whole = length (frame (m .envelope) k c) in

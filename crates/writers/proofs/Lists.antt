@@ -1,6 +1,6 @@
 -- Fields: how long their bytes are, whether they can be written, and a list's bytes at each turn of a loop.
-use Prim.Native.Nat.{ℕ, zero, suc, _+_, _*_, _/_, _%_, _<_}
-use mathlib.Core.Bool.{Bool, true, false, _&&_}
+use Prim.Native.Nat.{ℕ, _+_, _*_, _<_}
+use mathlib.Core.Bool.{true, and-true}
 use mathlib.Core.List.{List, [], _∷_, _++_, append-nil}
 use mathlib.Core.Path.{_≡_, refl, ap, _∙_}
 use native.Mathlib.Omega.{arith}
@@ -10,13 +10,13 @@ use lib.ListN.{length, getD, drop, length-append}
 use lib.Signed.{mag}
 use mir.Syntax.{w16}
 use mir.Val.{toZ, ofZ}
-use mir.ValLaws.{toZ-ofZ}
 use Rattle.protocol.specs.declared.Rules.{Rules}
 use Rattle.protocol.specs.Bytes.{noZero, isOneOf, be, bitsOf}
 use Rattle.protocol.specs.Each.{bytesOfEach, ableEach}
 use Rattle.protocol.specs.Encode.{items}
 use Rattle.protocol.specs.Fields.{signed, oneOf, rest, one, able, bytes, atomBytes, atomAble, itemBytes, itemAble, itemsBytes, itemsAble}
 use Rattle.protocol.specs.Kinds.{string, oid, format, oids, formats}
+use Rattle.protocol.proofs.Basics.{length-be, back}
 use Rattle.writers.proofs.Laws.{drop-more}
 
 pub length-items : {A : Type 0} (xs : List A) → length (items xs) ≡ length xs
@@ -46,7 +46,7 @@ pub halves-more : (zs : List ℤ) (i : ℕ) {b : ℕ} → i < length zs → mag 
     → itemsBytes format (items (drop i zs)) ≡ be 2 b ++ itemsBytes format (items (drop (i + 1) zs))
 unfolding itemsBytes itemBytes bytesOfEach atomBytes
 halves-more zs i {b} h small e =
-    let f : b ≡ bitsOf 2 (getD zs i (pos 0)) = e ∙ ap (bitsOf 2) (toZ-ofZ w16 (getD zs i (pos 0)) (record { sfits = small })) in
+    let f : b ≡ bitsOf 2 (getD zs i (pos 0)) = e ∙ ap (bitsOf 2) (back w16 (getD zs i (pos 0)) small) in
     rw (drop-more zs i (pos 0) h, f, append-nil (be 2 (bitsOf 2 (getD zs i (pos 0))))) refl
 
 pub length-halves : (zs : List ℤ) → length (itemsBytes format (items zs)) ≡ 2 * length zs
@@ -61,22 +61,6 @@ able-halves rules (z ∷ zs) = able-halves rules zs
 
 -- ---- fields
 
-pub and-true : (a : Bool) → a && true ≡ a
-and-true true = refl
-and-true false = refl
-
-pub and-false : (a : Bool) → a && false ≡ false
-and-false true = refl
-and-false false = refl
-
-pub and-left : (a b : Bool) → a && b ≡ true → a ≡ true
-and-left true b e = refl
-and-left false b e = e
-
-pub and-right : (a : Bool) {b : Bool} → a && b ≡ true → b ≡ true
-and-right true e = e
-and-right false e = let z : _≡_ {A = ℕ} 0 1 = cc in absurd (omega arith)
-
 pub able-text : (rules : Rules) (s : List ℕ) → able rules string s ≡ noZero s
 unfolding able atomAble
 able-text rules s = refl
@@ -88,11 +72,6 @@ length-text s = length-append s (0 ∷ [])
 pub able-signed : (rules : Rules) (w : ℕ) (z : ℤ) → able rules (one (signed w)) z ≡ true
 unfolding able atomAble
 able-signed rules w z = refl
-
-length-be : (w n : ℕ) → length (be w n) ≡ w
-unfolding be
-length-be zero n = refl
-length-be (suc w) n = omega (arith, length-append (be w (n / 256)) (n % 256 ∷ []), length-be w (n / 256))
 
 pub length-signed : (w : ℕ) (z : ℤ) → length (bytes (one (signed w)) z) ≡ w
 unfolding bytes atomBytes

@@ -8,7 +8,7 @@ use lib.ListN.{length}
 use Rattle.protocol.specs.Bytes.{noZero}
 use Rattle.protocol.specs.Kinds as K
 use Rattle.writers.proofs.Encoding.{Judged, judged, roomOf, refused, finished}
-use Rattle.writers.proofs.Lists.{and-right}
+use Rattle.protocol.proofs.Basics.{and-right}
 use Rattle.encode.specs.Given as G
 use Rattle.encode.proofs.Measures as M
 use Rattle.encode.proofs.extendedquery.parse.Statement.{statement}
