@@ -1,3 +1,3 @@
 pub mod Measures
-pub mod Rows
 pub mod Shapes
+pub mod TwoPasses

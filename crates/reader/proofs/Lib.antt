@@ -1,3 +1,3 @@
 pub mod Thin
-pub mod Rows
+pub mod RowRoom
 pub mod Places

@@ -16,7 +16,7 @@ use Rattle.protocol.specs.Refusals.{lengthAboveLimit, outputTooShort, notRepres
 use Rattle.protocol.specs.Rules.{rulesOf}
 use Rattle.protocol.specs.WellFormed.{Contents, bodyBytes, lengthOf, header, bodyStart, frame, allAble}
 use Rattle.protocol.proofs.Basics.{refused-done, length-header}
-use Rattle.writers.specs.Writing.{write, Wrote, Put, Framed, verdictOf}
+use Rattle.writers.specs.Writing.{write, Wrote, Put, WroteFrame, largest, verdictOf}
 use Rattle.writers.proofs.Laws.{_then_, front}
 use Rattle.writers.proofs.Puts.{Fits, same-size, headed}
 
@@ -47,7 +47,7 @@ only e = cc
 -- the head, for a frame of n bytes, and then the body
 pub framed : {d mid left : List ℕ} {n at next size : ℕ} (k : Kind) (c : Contents k)
     → Wrote d 0 (header typed (k .tag) (n - 5)) 5 mid at → Wrote mid at (bodyBytes k c) size left next → n ≡ 5 + size
-    → Framed typed k (some c) d left
+    → WroteFrame typed k (some c) d left
 unfolding frame
 framed {d} {mid} {left} {n} k c h b e =
     let f : length (bodyBytes k c) ≡ n - 5 = omega (arith, b .size) in
@@ -57,30 +57,30 @@ framed {d} {mid} {left} {n} k c h b e =
 -- the same, by writers that look for their room
 pub framed-put : {d mid left : List ℕ} {n at next size : ℕ} (k : Kind) (c : Contents k)
     → Put (leb 5 n && leb n largeFrame) d 0 (header typed (k .tag) (n - 5)) 5 mid at → Fits mid at (bodyBytes k c) size left next → n ≡ 5 + size
-    → n ≤ length d → n ≤ largeFrame → Framed typed k (some c) d left
+    → n ≤ length d → n ≤ largeFrame → WroteFrame typed k (some c) d left
 framed-put k c head body e room small =
     let h = headed head (omega arith) room small in
     framed k c h (body (omega (arith, h .place, same-size h))) e
 
 -- in any envelope, head and body at once
-pub framed-whole : {d left : List ℕ} {e : Envelope} {n next : ℕ} (k : Kind) (c : Contents k) → Wrote d 0 (frame e k c) n left next → Framed e k (some c) d left
+pub framed-whole : {d left : List ℕ} {e : Envelope} {n next : ℕ} (k : Kind) (c : Contents k) → Wrote d 0 (frame e k c) n left next → WroteFrame e k (some c) d left
 framed-whole {d} {left} {e} k c w = record { bytes = λ x is. w .bytes ∙ ap (λ (y : Contents k). write d 0 (frame e k y)) (only is) }
 
 -- ---- the verdict
 
 -- a size that stopped at the largest number gets the answer of the size itself
-cut : (able : Bool) (limit size more room : ℕ) → limit < 18446744073709551615
-    → verdictOf able limit (min size 18446744073709551615) more room ≡ verdictOf able limit size more room
+cut : (able : Bool) (limit size more room : ℕ) → limit < largest
+    → verdictOf able limit (min size largest) more room ≡ verdictOf able limit size more room
 unfolding verdictOf
 cut able limit size more room low = by (ltb limit size) refl
   where
-    by : (t : Bool) → ltb limit size ≡ t → verdictOf able limit (min size 18446744073709551615) more room ≡ verdictOf able limit size more room
+    by : (t : Bool) → ltb limit size ≡ t → verdictOf able limit (min size largest) more room ≡ verdictOf able limit size more room
     by true e =
         let h : limit < size = ltb-true _ _ e in
-        rw (e, lt-ltb limit (min size 18446744073709551615) (omega arith)) refl
+        rw (e, lt-ltb limit (min size largest) (omega arith)) refl
     by false e =
         let h : size ≤ limit = ltb-false _ _ e in
-        let k : min size 18446744073709551615 ≡ size = omega arith in
+        let k : min size largest ≡ size = omega arith in
         rw k refl
 
 -- whether arguments can be written at all
@@ -92,10 +92,10 @@ ableOf m k (some c) = allAble (rulesOf (m .mode)) k c
 pub record Judged (m : Mode) (k : Kind) (given : Option (Contents k)) (room : ℕ) (r : Encoded) : Type 0 where
   pub answer : r ≡ encodedBy m k given room
 
-module _ (m : Mode) (k : Kind) (low : k .limit < 18446744073709551615) where
+module _ (m : Mode) (k : Kind) (low : k .limit < largest) where
   -- of a content: the measured size counts only where the content can be written
   judged-by : (c : Contents k) {size room : ℕ} {r : Encoded} (able : Bool)
-      → allAble (rulesOf (m .mode)) k c ≡ able → (able ≡ true → size ≡ min (lengthOf (m .envelope) (length (bodyBytes k c))) 18446744073709551615)
+      → allAble (rulesOf (m .mode)) k c ≡ able → (able ≡ true → size ≡ min (lengthOf (m .envelope) (length (bodyBytes k c))) largest)
       → r ≡ verdictOf able (k .limit) size (uncounted (m .envelope)) room → Judged m k (some c) room r
   unfolding encodedBy verdictOf
   judged-by c {size} {room} {r} false same sized v = record { answer = v ∙ rw same refl }
@@ -107,14 +107,14 @@ module _ (m : Mode) (k : Kind) (low : k .limit < 18446744073709551615) where
 
   judged-some : (c : Contents k) {able : Bool} {size room : ℕ} {r : Encoded}
       → able ≡ allAble (rulesOf (m .mode)) k c
-      → (able ≡ true → size ≡ min (lengthOf (m .envelope) (length (bodyBytes k c))) 18446744073709551615)
+      → (able ≡ true → size ≡ min (lengthOf (m .envelope) (length (bodyBytes k c))) largest)
       → r ≡ verdictOf able (k .limit) size (uncounted (m .envelope)) room → Judged m k (some c) room r
   judged-some c {able} same sized v = judged-by c able (sym same) sized v
 
   -- of arguments that may be no content
   pub judged-given : (given : Option (Contents k)) {able : Bool} {size room : ℕ} {r : Encoded}
       → able ≡ ableOf m k given
-      → ((c : Contents k) → given ≡ some c → able ≡ true → size ≡ min (lengthOf (m .envelope) (length (bodyBytes k c))) 18446744073709551615)
+      → ((c : Contents k) → given ≡ some c → able ≡ true → size ≡ min (lengthOf (m .envelope) (length (bodyBytes k c))) largest)
       → r ≡ verdictOf able (k .limit) size (uncounted (m .envelope)) room → Judged m k given room r
   unfolding ableOf encodedBy verdictOf
   judged-given none same sized v = record { answer = v ∙ rw same refl }
@@ -168,7 +168,7 @@ refused {m} {k} {given} {out} {number} {place} {r} v is = record { answer = v .a
     by (some c) = refl
 
 pub done : {m : Mode} {k : Kind} {given : Option (Contents k)} {out left : List ℕ} {n : ℕ} {r : Encoded}
-    → Judged m k given (length out) r → r ≡ N.Done n → Framed (m .envelope) k given out left → Encodes m k given out (N.Done n) left
+    → Judged m k given (length out) r → r ≡ N.Done n → WroteFrame (m .envelope) k given out left → Encodes m k given out (N.Done n) left
 unfolding writtenBy
 done {m} {k} {given} {out} {left} {n} v is w =
     let h = writtenOf m k given v is in
@@ -213,8 +213,8 @@ typed-is : (e : Envelope) (n : ℕ) → e ≡ typed → (lengthOf e n ≡ 4 + n)
 typed-is e n is = rw is (refl, refl)
 
 module _ {m : Mode} {k : Kind} {given : Option (Contents k)} {limit : ℕ} {able : Bool} {size : ℕ} (x : Measured m k given limit able size) where
-  pub judged : {able′ : Bool} {size′ room : ℕ} {r : Encoded} → limit < 18446744073709551615 → able′ ≡ able
-      → (able ≡ true → size′ ≡ min (4 + size) 18446744073709551615) → r ≡ verdictOf able′ limit size′ 1 room → Judged m k given room r
+  pub judged : {able′ : Bool} {size′ room : ℕ} {r : Encoded} → limit < largest → able′ ≡ able
+      → (able ≡ true → size′ ≡ min (4 + size) largest) → r ≡ verdictOf able′ limit size′ 1 room → Judged m k given room r
   judged {able′} {size′} {room} {r} low same sized v =
       judged-given m k (omega (arith, low, x .limit)) given {size = size′} (same ∙ sym (x .able))
       (λ c is t. rw (x .envelope, x .size c is) (sized (sym same ∙ t)))
@@ -228,5 +228,5 @@ module _ {m : Mode} {k : Kind} {given : Option (Contents k)} {limit : ℕ} {able
       record { able = sym (x .able) ∙ h .able; whole = w; small = omega (arith, w, h .small, t .0, x .limit, x .size (h .it) (h .is)); fits = h .fits }
 
   pub finished : {out left : List ℕ} {n : ℕ} {r : Encoded}
-      → Judged m k given (length out) r → r ≡ N.Done n → Framed typed k given out left → Encodes m k given out (N.Done n) left
+      → Judged m k given (length out) r → r ≡ N.Done n → WroteFrame typed k given out left → Encodes m k given out (N.Done n) left
   finished v is w = done v is (rw (x .envelope) w)

@@ -11,7 +11,7 @@ use Rattle.protocol.specs.Rules.{rulesOf}
 use Rattle.protocol.specs.WellFormed.{Contents, bodyBytes, allAble}
 use Rattle.protocol.proofs.Basics.{none-some}
 use Rattle.writers.specs.Given.{isSome}
-use Rattle.writers.specs.Writing.{Framed}
+use Rattle.writers.specs.Writing.{WroteFrame}
 use Rattle.writers.proofs.Encoding.{ableOf, Measured, measured}
 
 -- ---- a first item, behind a test
@@ -36,7 +36,7 @@ some-first x false o = refl
 
 module _ {A : Type 0} (k : Kind) (body : A → Contents k) where
   pub framed-given : {d left : List ℕ} (given : Option A)
-      → ((x : A) → given ≡ some x → Framed typed k (some (body x)) d left) → Framed typed k (Option·map body given) d left
+      → ((x : A) → given ≡ some x → WroteFrame typed k (some (body x)) d left) → WroteFrame typed k (Option·map body given) d left
   framed-given none w = record { bytes = λ c is. absurd (none-some is) }
   framed-given (some x) w = w x refl
 

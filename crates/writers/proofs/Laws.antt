@@ -1,5 +1,5 @@
 -- Runs of stores, one after the other; and what a loop over a list does at each turn.
-use Prim.Native.Nat.{ℕ, zero, suc, _+_, _-_, _*_, _/_, _%_, _≤_, _<_}
+use Prim.Native.Nat.{ℕ, zero, suc, _+_, _-_, _*_, _/_, _%_, _≤_, _<_, _^_}
 use mathlib.Core.List.{List, [], _∷_, _++_}
 use mathlib.Core.Path.{_≡_, refl, ap, _∙_, sym}
 use native.Mathlib.Nat.{add-zero, zero-add}
@@ -140,7 +140,7 @@ twice x = omega arith
 thrice : (x : ℕ) → x / 256 / 256 / 256 ≡ x / 16777216
 thrice x = omega arith
 
-top : (x : ℕ) → x < 4294967296 → x / 16777216 < 256
+top : (x : ℕ) → x < 256 ^ 4 → x / 16777216 < 256
 top x h = omega arith
 
 byte : (x : ℕ) → x % 256 < 256
@@ -149,13 +149,13 @@ byte x = omega arith
 low : (x : ℕ) → x < 256 → x % 256 ≡ x
 low x h = omega arith
 
-turned-bytes : (x y : ℕ) → x < 4294967296 → y ≡ x % 256 * 16777216 + x / 256 % 256 * 65536 + x / 65536 % 256 * 256 + x / 16777216
+turned-bytes : (x y : ℕ) → x < 256 ^ 4 → y ≡ x % 256 * 16777216 + x / 256 % 256 * 65536 + x / 65536 % 256 * 256 + x / 16777216
     → (y % 256 ∷ y / 256 % 256 ∷ y / 65536 % 256 ∷ y / 16777216 % 256 ∷ []) ≡ be 4 x
 unfolding be
 turned-bytes x y small e =
     let f = four y (x % 256) (x / 256 % 256) (x / 65536 % 256) (x / 16777216) (byte x) (byte (x / 256)) (byte (x / 65536)) (top x small) e in
     rw (f .0, f .1, f .2, f .3, thrice x, twice x, low (x / 16777216) (top x small)) refl
 
-pub turned-wrote : {d out : List ℕ} {p next : ℕ} (x y : ℕ) → x < 4294967296 → y ≡ x % 256 * 16777216 + x / 256 % 256 * 65536 + x / 65536 % 256 * 256 + x / 16777216
+pub turned-wrote : {d out : List ℕ} {p next : ℕ} (x y : ℕ) → x < 256 ^ 4 → y ≡ x % 256 * 16777216 + x / 256 % 256 * 65536 + x / 65536 % 256 * 256 + x / 16777216
     → Wrote d p (y % 256 ∷ y / 256 % 256 ∷ y / 65536 % 256 ∷ y / 16777216 % 256 ∷ []) 4 out next → Wrote d p (be 4 x) 4 out next
 turned-wrote x y small e w = rw (← turned-bytes x y small e) w

@@ -1,5 +1,5 @@
 -- Values, one after the other: when lengths and bytes are some, and what is written of them.
-use Prim.Native.Nat.{ℕ, zero, suc, _+_, _*_, _-_, _≤_, _<_}
+use Prim.Native.Nat.{ℕ, zero, suc, _+_, _*_, _-_, _≤_, _<_, _^_}
 use mathlib.Core.Bool.{Bool, true, false, _&&_, and-true, true≢false, false≢true}
 use mathlib.Core.List.{List, [], _∷_, _++_, append-nil, append-assoc}
 use mathlib.Core.Option.{some, none}
@@ -12,13 +12,13 @@ use lib.ListN.{length, getD, take, drop, length-append, length-drop}
 use lib.Seq.{length-take-le, drop-drop}
 use lib.Signed.{ltZ, mag}
 use mir.Syntax.{w32}
-use mir.Val.{SFits, toZ, ofZ}
+use mir.Val.{SFits, hbits, toZ, ofZ}
 use mir.ValLaws.{toZ-ofZ}
 use Rattle.protocol.specs.declared.Rules.{Rules}
 use Rattle.protocol.specs.Bytes.{be, bitsOf}
 use Rattle.protocol.specs.Each.{ableEach, bytesOfEach}
 use Rattle.protocol.specs.Encode.{valuesGiven}
-use Rattle.protocol.specs.Fields.{ItemContent, able, bytes, atomAble, atomBytes, valueBytes, itemAble, itemBytes, itemsAble, itemsBytes}
+use Rattle.protocol.specs.Fields.{ItemContent, signedCount, most, able, bytes, atomAble, atomBytes, valueBytes, itemAble, itemBytes, itemsAble, itemsBytes}
 use Rattle.protocol.specs.Kinds.{nullable, values}
 use Rattle.protocol.proofs.Basics.{none-some, and-left, and-right, length-be, back}
 use Rattle.writers.specs.Given.{isSome, sizeOf}
@@ -60,7 +60,7 @@ right z ls bs e = by (ltZ z (negsuc 0)) refl
     by false low = let f = sym (next z ls bs low) ∙ e in (leb-true _ _ (and-left (leb (sizeOf z) (length bs)) (isSome (valuesGiven ls (drop (sizeOf z) bs))) f), and-right (leb (sizeOf z) (length bs)) f)
 
 -- at a length that the code reads: small is what it knows of it; joined is passed up to j, and k is the size of the length at i
-module _ (zs : List ℤ) (bs : List ℕ) (i j : ℕ) (h : i < length zs) (small : mag (getD zs i (pos 0)) < 2147483648) where
+module _ (zs : List ℤ) (bs : List ℕ) (i j : ℕ) (h : i < length zs) (small : mag (getD zs i (pos 0)) < 2 ^ hbits w32) where
   same : toZ w32 (ofZ w32 (getD zs i (pos 0))) ≡ getD zs i (pos 0)
   same = back w32 (getD zs i (pos 0)) small
 
@@ -98,7 +98,7 @@ valuesBytes [] bs = []
 valuesBytes (z ∷ zs) bs = be 4 (bitsOf 4 z) ++ (take (sizeOf z) bs ++ valuesBytes zs (drop (sizeOf z) bs))
 
 -- the next value, in the words of the code: b is the bits of the length at i
-pub values-more : (zs : List ℤ) (bs : List ℕ) (i j : ℕ) {b k : ℕ} → i < length zs → mag (getD zs i (pos 0)) < 2147483648
+pub values-more : (zs : List ℤ) (bs : List ℕ) (i j : ℕ) {b k : ℕ} → i < length zs → mag (getD zs i (pos 0)) < 2 ^ hbits w32
     → b ≡ bitsOf 4 (toZ w32 (ofZ w32 (getD zs i (pos 0)))) → k ≡ sizeOf (toZ w32 (ofZ w32 (getD zs i (pos 0))))
     → valuesBytes (drop i zs) (drop j bs) ≡ be 4 b ++ take ((j + k) - j) (drop j bs) ++ valuesBytes (drop (i + 1) zs) (drop (j + k) bs)
 unfolding valuesBytes
@@ -146,9 +146,9 @@ able-nullables rules [] = refl
 able-nullables rules (v ∷ vs) = able-nullables rules vs
 
 pub able-values : (rules : Rules) (zs : List ℤ) (bs : List ℕ) (vs : List (ItemContent nullable)) → valuesGiven zs bs ≡ some vs
-    → able rules values vs ≡ leb (length zs) 32767
+    → able rules values vs ≡ leb (length zs) (most signedCount)
 unfolding able
-able-values rules zs bs vs e = rw (values-are zs bs vs e .many, able-nullables rules vs) (and-true (leb (length zs) 32767))
+able-values rules zs bs vs e = rw (values-are zs bs vs e .many, able-nullables rules vs) (and-true (leb (length zs) (most signedCount)))
 
 pub length-values : (zs : List ℤ) (bs : List ℕ) (vs : List (ItemContent nullable)) → valuesGiven zs bs ≡ some vs
     → length (bytes values vs) ≡ 2 + (4 * length zs + length bs)

@@ -2,7 +2,7 @@
 use mathlib.Core.Logic.{inl, inr}
 use borrow.Author.Needs.{needs}
 use Rattle.reader.specs.Row.{rowFits}
-use Rattle.reader.proofs.Rows.{refused, too-few, enough}
+use Rattle.reader.proofs.RowRoom.{refused, too-few, enough}
 use Rattle.reader.proofs.row.row_in.Statement.{statement}
 use Rattle.reader.proofs.row.row_in.Tie as tie
 
