@@ -21,4 +21,4 @@ returns-2 : tie.Need-returns-2
 returns-2 c = rw (le-ltb (c .before .args .n) (suc longest) (c .if1 .left)) refl
 
 pub signed-length-spec : {M : Type 1} → statement M
-signed-length-spec = tie.close (tie.spec (λ c. search needs) returns returns-2)
+signed-length-spec = tie.close (tie.spec (λ c. search needs) (λ c. search needs) returns returns-2)
