@@ -2,8 +2,8 @@
 -- is read back from its bits. Laws of tests with one side known (`and-true`, ..) and of true and false stand in mathlib.Core.Bool.
 use Prim.Native.Nat.{ℕ, zero, suc, _+_, _*_, _/_, _%_, _<_, _^_}
 use mathlib.Core.Bool.{Bool, true, false, _&&_, false≢true}
-use mathlib.Core.List.{List, [], _∷_}
-use mathlib.Core.Option.{Option, some, none}
+use mathlib.Core.List.{[], _∷_}
+use mathlib.Core.Option.{some, none}
 use mathlib.Core.Path.{_≡_, refl}
 use native.Mathlib.Omega.{arith}
 use lib.Dec.{T}

@@ -1,14 +1,14 @@
 -- Writers that look for their room: what the test tells, and one write after the other.
 use Prim.Native.Nat.{ℕ, _+_, _-_, _≤_, _<_}
 use mathlib.Core.Bool.{Bool, true, false, _&&_, true≢false}
-use mathlib.Core.List.{List, [], _∷_, _++_}
+use mathlib.Core.List.{List, [], _++_}
 use mathlib.Core.Path.{_≡_, refl, ap, _∙_, sym}
 use native.Mathlib.Omega.{arith}
 use borrow.Author.Tests.{leb-true, leb-false, le-leb, lt-leb}
 use lib.Dec.{leb}
 use lib.ListN.{length}
 use Rattle.protocol.specs.Kinds.{largeFrame}
-use Rattle.writers.specs.Writing.{write, Wrote, Put}
+use Rattle.writers.specs.Writing.{Wrote, Put}
 use Rattle.protocol.proofs.Basics.{and-left, and-right}
 use Rattle.writers.proofs.Laws.{_then_, nothing, length-write}
 
