@@ -1,7 +1,7 @@
--- Small laws for the proofs of every crate: two constructors are never equal, two tests that both pass, the lengths of bytes, and a signed number that
+-- Small laws for the proofs of every crate: two constructors are never equal, what a test tells, the lengths of bytes, and a signed number that
 -- is read back from its bits. Laws of tests with one side known (`and-true`, ..) and of true and false stand in mathlib.Core.Bool.
 use Prim.Native.Nat.{ℕ, zero, suc, _+_, _*_, _/_, _%_, _<_, _^_}
-use mathlib.Core.Bool.{Bool, true, false, _&&_, false≢true}
+use mathlib.Core.Bool.{Bool, true, false, cond, _&&_, false≢true}
 use mathlib.Core.List.{[], _∷_}
 use mathlib.Core.Option.{some, none}
 use mathlib.Core.Path.{_≡_, refl}
@@ -88,7 +88,18 @@ refused-done e = zero-one cc
 pub done-refused : {n number place : ℕ} → N.Done n ≡ N.Refused number place → ⊥
 done-refused e = zero-one cc
 
--- ---- two tests that both pass
+-- ---- tests
+
+-- a test chose the first of two, since the second is not what there is; or the second, since the first is not
+pub first-chosen : {A : Type 0} (t : Bool) {a b x : A} → (b ≡ x → ⊥) → cond t a b ≡ x → (t ≡ true) × (a ≡ x)
+first-chosen true n e = (refl, e)
+first-chosen false n e = absurd (n e)
+
+pub second-chosen : {A : Type 0} (t : Bool) {a b x : A} → (a ≡ x → ⊥) → cond t a b ≡ x → (t ≡ false) × (b ≡ x)
+second-chosen true n e = absurd (n e)
+second-chosen false n e = (refl, e)
+
+-- two tests that both pass
 
 pub and-left : (a b : Bool) → a && b ≡ true → a ≡ true
 and-left true b e = refl
@@ -98,7 +109,7 @@ pub and-right : (a : Bool) {b : Bool} → a && b ≡ true → b ≡ true
 and-right true e = e
 and-right false e = absurd (false≢true e)
 
--- as a test that computes is told
+-- the same of a test that computes
 pub left-holds : (a b : Bool) → T (a && b) → T a
 left-holds true b t = tt
 left-holds false b t = t

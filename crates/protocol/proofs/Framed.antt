@@ -1,6 +1,6 @@
 -- What is known where a header names a whole frame.
 use Prim.Native.Nat.{ℕ, _+_, _≤_}
-use mathlib.Core.Bool.{Bool, true, false, cond}
+use mathlib.Core.Bool.{Bool}
 use mathlib.Core.List.{List}
 use mathlib.Core.Option.{Option, some, none}
 use mathlib.Core.Path.{_≡_, refl, ap, sym}
@@ -18,13 +18,8 @@ use Rattle.protocol.specs.Bytes.{numberAt, signedOf}
 use Rattle.protocol.specs.Decode.{Header, more, refuse, framed, lengthBy, typedBy, untypedBy, bareBy, tagAt, headerIn, headerBy, headerOf, bodyOf, decodedBy, decodeBy, decodeOf}
 use Rattle.protocol.specs.Kinds.{Envelope, typed, untyped, bare, Kind, Mode, modes, modeOf, kindIn, the-table}
 use Rattle.protocol.specs.WellFormed.{bodyStart, lengthOf}
-use Rattle.protocol.proofs.Basics.{more-framed, refuse-framed, waits-record, refused-record}
+use Rattle.protocol.proofs.Basics.{more-framed, refuse-framed, waits-record, refused-record, second-chosen}
 use Rattle.protocol.proofs.Find.{every, find-every, numberOf, tagOf}
-
--- a test that chose the second of two headers
-chosen : (t : Bool) (a b h : Header) → ((a ≡ h) → ⊥) → cond t a b ≡ h → (t ≡ false) × (b ≡ h)
-chosen true a b h n e = absurd (n e)
-chosen false a b h n e = (refl, e)
 
 -- ---- the length word at p passed its checks, and the frame is there
 
@@ -40,9 +35,9 @@ sized-by : (k : Kind) (p start : ℕ) (s : List ℕ) (z : ℤ) (h : Kind) (a b :
 unfolding lengthBy
 sized-by k p start s (negsuc n) h a b w e = absurd (refuse-framed e)
 sized-by k p start s (pos n) h a b w e =
-    let c1 = chosen (ltb n (k .smallest)) _ _ _ refuse-framed e in
-    let c2 = chosen (ltb (k .limit) n) _ _ _ refuse-framed (c1 .1) in
-    let c3 = chosen (ltb (length s) (p + n)) _ _ _ more-framed (c2 .1) in
+    let c1 = second-chosen (ltb n (k .smallest)) refuse-framed e in
+    let c2 = second-chosen (ltb (k .limit) n) refuse-framed (c1 .1) in
+    let c3 = second-chosen (ltb (length s) (p + n)) more-framed (c2 .1) in
     let f = c3 .1 in
     let eb : p + n ≡ b = cc in
     let l : p + n ≤ length s = ltb-false _ _ (c3 .0) in
@@ -57,22 +52,22 @@ Framing bare k s end = (1 ≤ length s) × (end ≡ 1)
 
 framing-by : (e : Envelope) (o : Option Kind) (s : List ℕ) (k : Kind) (a b : ℕ) → headerIn e o s ≡ framed k a b → (o ≡ some k) × (a ≡ bodyStart e) × Framing e k s b
 unfolding headerIn typedBy untypedBy bareBy
-framing-by typed none s k a b e = absurd (refuse-framed (chosen (eqb (length s) 0) _ _ _ more-framed e .1))
+framing-by typed none s k a b e = absurd (refuse-framed (second-chosen (eqb (length s) 0) more-framed e .1))
 framing-by typed (some h) s k a b e =
-    let c1 = chosen (eqb (length s) 0) _ _ _ more-framed e in
-    let c2 = chosen (ltb (length s) 5) _ _ _ more-framed (c1 .1) in
+    let c1 = second-chosen (eqb (length s) 0) more-framed e in
+    let c2 = second-chosen (ltb (length s) 5) more-framed (c1 .1) in
     let r = sized-by h 1 5 s _ k a b refl (c2 .1) in
     let q = r .0 in
     (ap some q, sym (r .1), (ltb-false _ _ (c2 .0), rw (← q) (r .2)))
-framing-by untyped none s k a b e = absurd (refuse-framed (chosen (ltb (length s) 8) _ _ _ more-framed e .1))
+framing-by untyped none s k a b e = absurd (refuse-framed (second-chosen (ltb (length s) 8) more-framed e .1))
 framing-by untyped (some h) s k a b e =
-    let c1 = chosen (ltb (length s) 8) _ _ _ more-framed e in
+    let c1 = second-chosen (ltb (length s) 8) more-framed e in
     let r = sized-by h 0 8 s _ k a b refl (c1 .1) in
     let q = r .0 in
     (ap some q, sym (r .1), (ltb-false _ _ (c1 .0), rw (← q) (r .2)))
-framing-by bare none s k a b e = absurd (refuse-framed (chosen (eqb (length s) 0) _ _ _ more-framed e .1))
+framing-by bare none s k a b e = absurd (refuse-framed (second-chosen (eqb (length s) 0) more-framed e .1))
 framing-by bare (some h) s k a b e =
-    let c1 = chosen (eqb (length s) 0) _ _ _ more-framed e in
+    let c1 = second-chosen (eqb (length s) 0) more-framed e in
     let f = c1 .1 in
     let z : length s ≡ 0 → ⊥ = eqb-false _ _ (c1 .0) in
     let eb : 1 ≡ b = cc in

@@ -16,11 +16,11 @@ pub const LARGE: u32 = 1048576;
 
 pub const SMALL: u32 = 8192;
 
-// The bytes of the longest typed frame of all: a type byte is not counted by the length.
-pub const LARGE_FRAME: usize = LARGE as usize + 1;
-
 // The most elements of a list: the largest count of two bytes that is not negative.
 pub const MOST_SIGNED: usize = 32767;
+
+// The bytes of the longest typed frame of all: a type byte is not counted by the length.
+pub const LARGE_FRAME: usize = LARGE as usize + 1;
 
 // A kind's smallest length and its limit, or that there is no such kind.
 pub enum Bounds {

@@ -1,10 +1,10 @@
 -- What is known of a frame that is to be written.
 use Prim.Native.Nat.{ℕ, _+_, _≤_, min}
 use mathlib.Core.Bool.{_&&_}
-use mathlib.Core.Path.{_≡_, refl}
+use mathlib.Core.Path.{_≡_}
 use native.Mathlib.Omega.{arith}
 use borrow.Author.Tests.{leb-true}
-use lib.Dec.{leb, ltb}
+use lib.Dec.{leb}
 use Rattle.protocol.specs.declared.Encoded.the-variants as N
 use Rattle.protocol.specs.Fields.{most, signedCount}
 use Rattle.protocol.specs.Kinds.{large, largeFrame}
@@ -25,5 +25,5 @@ pub roomy-of : (c : Pass) (count room n : ℕ) → answered c count room ≡ N.D
 unfolding verdictOf
 roomy-of c count room n e =
     let size = min (c .at + 6) largest in
-    let h = room-by large size (size + 1) room n (leb count (most signedCount) && c .ok) (ltb large size) (ltb room (size + 1)) refl refl e in
+    let h = room-by large size (size + 1) room n (leb count (most signedCount) && c .ok) e in
     record { few = leb-true _ _ (and-left (leb count (most signedCount)) (c .ok) (h .0)); whole = omega (arith, h); small = omega (arith, h); fits = omega (arith, h) }

@@ -15,7 +15,7 @@ use Rattle.protocol.specs.Kinds.{Envelope, typed, untyped, bare, Kind, Mode, la
 use Rattle.protocol.specs.Refusals.{lengthAboveLimit, outputTooShort, notRepresentable}
 use Rattle.protocol.specs.Rules.{rulesOf}
 use Rattle.protocol.specs.WellFormed.{Contents, bodyBytes, lengthOf, header, bodyStart, frame, allAble}
-use Rattle.protocol.proofs.Basics.{refused-done, length-header}
+use Rattle.protocol.proofs.Basics.{refused-done, first-chosen, second-chosen, length-header}
 use Rattle.writers.specs.Writing.{write, Wrote, Put, WroteFrame, largest, verdictOf}
 use Rattle.writers.proofs.Laws.{_then_, front}
 use Rattle.writers.proofs.Puts.{Fits, same-size, headed}
@@ -129,13 +129,15 @@ pub record Room (can : Bool) (limit size room n : ℕ) : Type 0 where
   pub small : n ≤ limit
   pub fits : n ≤ room
 
-pub room-by : (limit size whole room n : ℕ) (able a b : Bool) → ltb limit size ≡ a → ltb room whole ≡ b
-    → cond able (cond a (N.Refused lengthAboveLimit 0) (cond b (N.Refused outputTooShort 0) (N.Done whole))) (N.Refused notRepresentable 0) ≡ N.Done n
+pub room-by : (limit size whole room n : ℕ) (able : Bool)
+    → cond able (cond (ltb limit size) (N.Refused lengthAboveLimit 0) (cond (ltb room whole) (N.Refused outputTooShort 0) (N.Done whole))) (N.Refused notRepresentable 0) ≡ N.Done n
     → (able ≡ true) × (n ≡ whole) × (size ≤ limit) × (whole ≤ room)
-room-by limit size whole room n true false false ea eb e = (refl, cc, ltb-false _ _ ea, ltb-false _ _ eb)
-room-by limit size whole room n true true b ea eb e = absurd (refused-done e)
-room-by limit size whole room n true false true ea eb e = absurd (refused-done e)
-room-by limit size whole room n false a b ea eb e = absurd (refused-done e)
+room-by limit size whole room n able e =
+    let a = first-chosen able refused-done e in
+    let b = second-chosen (ltb limit size) refused-done (a .1) in
+    let c = second-chosen (ltb room whole) refused-done (b .1) in
+    let q = c .1 in
+    (a .0, cc, ltb-false _ _ (b .0), ltb-false _ _ (c .0))
 
 -- what is written is a content
 pub record Written (m : Mode) (k : Kind) (given : Option (Contents k)) (room n : ℕ) : Type 0 where
@@ -153,7 +155,7 @@ writtenOf m k (some c) {room} {n} v is =
     let size = lengthOf (m .envelope) (length (bodyBytes k c)) in
     let whole = length (frame (m .envelope) k c) in
     let able = allAble (rulesOf (m .mode)) k c in
-    let h = room-by (k .limit) size whole room n able (ltb (k .limit) size) (ltb room whole) refl refl (sym (v .answer) ∙ is) in
+    let h = room-by (k .limit) size whole room n able (sym (v .answer) ∙ is) in
     record { it = c; is = refl; able = h .0; whole = h .1 ∙ length-frame (m .envelope) k c; small = h .2; fits = omega (arith, h .1, h .3) }
 
 -- ---- the two returns of an encoder
