@@ -22,6 +22,7 @@ use Rattle.protocol.specs.Kinds as K
 use Rattle.protocol.specs.Kinds.{Kind, oid, format, nullable, rowField, errorField, valueElement}
 use Rattle.protocol.specs.WellFormed.{Contents, AllInRange, bodyStart, recordOf}
 use Rattle.protocol.specs.Kinds.{the-table}
+use Rattle.protocol.proofs.Basics.{zero-one}
 use Rattle.encode.specs.Given as G
 use Rattle.laws.specs.Arguments.{nth}
 use Rattle.by_kind.specs.ByName.{Back, ListIs, Oids, Formats, ValueIs, Values, RowFields, ErrorFields, theCodec, ComesBack, Bare, ByName}
@@ -72,7 +73,7 @@ module _ (k : Kind) {R : Type 0} {Named : Back → R → Type 0} where
   of-made make none range named = comes-back none (λ x e. absurd (none-some e)) (λ x b e h. absurd (none-some e))
     where
       none-some : {A : Type 0} {a : A} → _≡_ {A = Option A} none (some a) → ⊥
-      none-some e = let z : _≡_ {A = ℕ} 0 1 = cc in omega arith
+      none-some e = zero-one cc
   of-made make (some a) range named = of-content (make a) (range a refl) (λ b h. named a b refl h)
 
 -- ---- a list comes back
@@ -80,7 +81,7 @@ module _ (k : Kind) {R : Type 0} {Named : Back → R → Type 0} where
 -- an item that is there is found
 item-there : (item : Item) (p : ℕ) (cs : List (ItemContent item)) (n : ℕ) (c : ItemContent item) → nth cs n ≡ some c → (q : ℕ) × (itemFrom item p cs n ≡ some (record { item = item; place = q; content = c }))
 unfolding nth itemFrom
-item-there item p [] n c e = let z : _≡_ {A = ℕ} 0 1 = cc in absurd (omega arith)
+item-there item p [] n c e = absurd (zero-one cc)
 item-there item p (x ∷ cs) zero c e = let q : x ≡ c = cc in (p, rw q refl)
 item-there item p (x ∷ cs) (suc n) c e = item-there item (p + length (itemBytes item x)) cs n c e
 

@@ -14,6 +14,7 @@ use Rattle.protocol.specs.Elements.{Listed, listIn}
 use Rattle.protocol.specs.Fields.{Atom, unsigned, signed, oneOf, text, value, rest, Item, itemLeast, Count, Field, one, counted, ended, Slot}
 use Rattle.protocol.specs.Kinds.{Kind, Mode, modes, the-table}
 use Rattle.protocol.specs.Reading.{Read, got, bad, andThen, read, readEach, passItems, readCount, readCounted}
+use Rattle.protocol.proofs.Basics.{zero-one}
 use Rattle.protocol.proofs.Counts.{counted-is}
 use Rattle.protocol.proofs.Find.{All}
 use Rattle.element.specs.declared.list.OneList.the-variants as L
@@ -62,11 +63,11 @@ module _ (f : List ℕ) where
       let same : l′ ≡ l = cc in
       let w = counted-is k (itemLeast i) f p q′ l (c ∙ ap (λ (x : ListSlot). got x q′) same) in
       omega (arith, w .start, w .fits, w .room)
-  counted-by k i p q q′ l l′ c (bad number place) h = let z : _≡_ {A = ℕ} 0 1 = cc in absurd (omega arith)
+  counted-by k i p q q′ l l′ c (bad number place) h = absurd (zero-one cc)
 
   count-by : (rules : Rules) (k : Count) (i : Item) (p q : ℕ) (l : ListSlot) (r : Read ListSlot) → readCount k (itemLeast i) f p ≡ r → andThen r (λ l q. andThen (passItems rules i (l .count) f q) (λ _ e. got l e)) ≡ got l q → l .start + l .count * itemLeast i ≤ length f
   count-by rules k i p q l (got l′ q′) c h = counted-by k i p q q′ l l′ c (passItems rules i (l′ .count) f q′) h
-  count-by rules k i p q l (bad number place) c h = let z : _≡_ {A = ℕ} 0 1 = cc in absurd (omega arith)
+  count-by rules k i p q l (bad number place) c h = absurd (zero-one cc)
 
   counted-fits : (rules : Rules) (k : Count) (i : Item) (p q : ℕ) (l : ListSlot) → readCounted rules k i f p ≡ got l q → l .start + l .count * itemLeast i ≤ length f
   unfolding readCounted
@@ -79,13 +80,13 @@ module _ (f : List ℕ) where
         let same : _≡_ {A = Each Slot (x ∷ xs)} (record { 0 = a; 1 = ss }) s = cc in
         let end : e ≡ q = cc in
         (ap (λ (v : Each Slot (x ∷ xs)). v .0) same, ap (λ (v : Each Slot (x ∷ xs)). got (v .1) e) same ∙ ap (got (s .1)) end)
-    others-by a (bad number place) h = let z : _≡_ {A = ℕ} 0 1 = cc in absurd (omega arith)
+    others-by a (bad number place) h = absurd (zero-one cc)
 
     first-by : (rules : Rules) (p : ℕ) (r : Read (Slot x)) → _≡_ {A = Read (Each Slot (x ∷ xs))} (andThen r (λ a m. andThen (readEach (read rules) xs f m) (λ ss e. got (record { 0 = a; 1 = ss }) e))) (got s q) → (m : ℕ) × (r ≡ got (s .0) m) × (readEach (read rules) xs f m ≡ got (s .1) q)
     first-by rules p (got a m) h =
         let o = others-by a (readEach (read rules) xs f m) h in
         (m, ap (λ (v : Slot x). got v m) (o .0), o .1)
-    first-by rules p (bad number place) h = let z : _≡_ {A = ℕ} 0 1 = cc in absurd (omega arith)
+    first-by rules p (bad number place) h = absurd (zero-one cc)
 
   pub read-fits : (rules : Rules) (xs : List Field) (l p q : ℕ) (s : Each Slot xs) → readEach (read rules) xs f p ≡ got s q → ListFits xs l s
   read-fits rules [] l p q s h = tt
@@ -123,7 +124,7 @@ module _ (f : List ℕ) where
   module _ (sort : Sort) (x : ListSlot) where
     found-fits : (xs : List Field) (l : ℕ) (s : Each Slot xs) → EndedVary xs → ListFits xs l s → some (record { item = itemOf sort; list = x }) ≡ listIn xs l s → FitsSort f x sort
     unfolding listIn
-    found-fits [] l s v h e = let z : _≡_ {A = ℕ} 0 1 = cc in absurd (omega arith)
+    found-fits [] l s v h e = absurd (zero-one cc)
     found-fits (one a ∷ xs) l s v h e = found-fits xs l (s .1) (v .1) h e
     found-fits (counted k i ∷ xs) zero s v h e =
         let same : _≡_ {A = Listed} (record { item = itemOf sort; list = x }) (record { item = i; list = s .0 }) = cc in

@@ -1,5 +1,3 @@
-pub mod Door
-pub mod GivenMeasures
 pub mod Measures
-pub mod Rows
 pub mod Shapes
+pub mod TwoPasses

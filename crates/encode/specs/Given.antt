@@ -19,7 +19,7 @@ use Rattle.protocol.specs.WellFormed.{Contents}
 abbrev pub Given : Kind → Type 0
 Given k = Option (Contents k)
 
--- a row of which an encoder sees all that it needs: name, number and record do not matter to it
+-- a kind of which an encoder sees all that it needs: name, number and record do not matter to it
 abbrev pub anonymous : ℕ → ℕ → ℕ → List Field → Kind
 anonymous tag smallest limit body = record {
   name = "";

@@ -6,7 +6,7 @@ ghost use lib.ListN.{length};
 ghost use Rattle.protocol.specs.Bytes.{bitsOf};
 ghost use Rattle.protocol.specs.Encode.{Encodes};
 ghost use Rattle.protocol.specs.Kinds as K;
-ghost use Rattle.writers.specs.Writing.{Framed};
+ghost use Rattle.writers.specs.Writing.{WroteFrame};
 ghost use Rattle.encode.specs.Given as G;
 use protocol::Encoded;
 use protocol::cancel::CancelRequest;
@@ -17,7 +17,7 @@ use writers::put_word;
 // pid and key are the bits of the two numbers.
 fn write_cancel_request(pid: u32, key: u32, out: &mut [u8])
     requires { ⌜ 16 ≤ length (now out) ⌝ }
-    ensures { λ r. ⌜ ((y z : ℤ) → pid ≡ bitsOf 4 y → key ≡ bitsOf 4 z → Framed K.untyped K.cancelRequest (G.cancelRequest y z) (now (out .entry)) (now (out .exit))) ⌝ }
+    ensures { λ r. ⌜ ((y z : ℤ) → pid ≡ bitsOf 4 y → key ≡ bitsOf 4 z → WroteFrame K.untyped K.cancelRequest (G.cancelRequest y z) (now (out .entry)) (now (out .exit))) ⌝ }
 {
     let at = put_word(out, 0, 16);
     let at = put_word(out, at, CancelRequest::CANCEL_REQUEST_CODE);

@@ -6,7 +6,7 @@ ghost use lib.ListN.{length};
 ghost use Rattle.protocol.specs.Bytes.{bitsOf};
 ghost use Rattle.protocol.specs.Encode.{Encodes};
 ghost use Rattle.protocol.specs.Kinds as K;
-ghost use Rattle.writers.specs.Writing.{Framed};
+ghost use Rattle.writers.specs.Writing.{WroteFrame};
 ghost use Rattle.encode.specs.Given as G;
 use crate::bare;
 use crate::one_text;
@@ -18,6 +18,7 @@ use protocol::copy::MESSAGE_TYPE_BYTE_COPY_FAIL;
 use protocol::copy::MESSAGE_TYPE_BYTE_COPY_IN_RESPONSE;
 use protocol::copy::MESSAGE_TYPE_BYTE_COPY_OUT_RESPONSE;
 use protocol::kinds::LARGE;
+use protocol::kinds::MOST_SIGNED;
 use protocol::kinds::SMALL;
 use writers::bits8;
 use writers::plus;
@@ -29,7 +30,7 @@ use writers::verdict;
 
 fn write_copy_data(data: &[u8], n: usize, out: &mut [u8])
     requires { ⌜ (n ≡ length (now «data») + 5) × (n ≤ length (now out)) × (n ≤ K.largeFrame) ⌝ }
-    ensures { λ r. ⌜ Framed K.typed K.copyData (G.copyData (now («data» .entry))) (now (out .entry)) (now (out .exit)) ⌝ }
+    ensures { λ r. ⌜ WroteFrame K.typed K.copyData (G.copyData (now («data» .entry))) (now (out .entry)) (now (out .exit)) ⌝ }
 {
     let at = put_head(out, MESSAGE_TYPE_BYTE_COPY_DATA, n);
     put_bytes(out, at, data);
@@ -66,7 +67,7 @@ pub fn copy_fail(message: &[u8], out: &mut [u8]) -> Encoded
 // format is the bits of the overall format.
 fn write_copy_response(type_byte: u8, format: u8, column_formats: &[i16], n: usize, out: &mut [u8])
     requires { ⌜ (n ≡ 2 * length (now «column_formats») + 8) × (n ≤ length (now out)) × (n ≤ K.smallFrame) ⌝ }
-    ensures { λ r. ⌜ ((z : ℤ) → format ≡ bitsOf 1 z → Framed K.typed (G.formatted «type_byte») (G.formatsOf «type_byte» z (now («column_formats» .entry))) (now (out .entry)) (now (out .exit))) ⌝ }
+    ensures { λ r. ⌜ ((z : ℤ) → format ≡ bitsOf 1 z → WroteFrame K.typed (G.formatted «type_byte») (G.formatsOf «type_byte» z (now («column_formats» .entry))) (now (out .entry)) (now (out .exit))) ⌝ }
 {
     let at = put_head(out, type_byte, n);
     let at = put_byte(out, at, format);
@@ -77,7 +78,7 @@ fn write_copy_response(type_byte: u8, format: u8, column_formats: &[i16], n: usi
 fn copy_response(type_byte: u8, format: u8, column_formats: &[i16], out: &mut [u8]) -> Encoded
     ensures { λ r. ⌜ ((z : ℤ) → format ≡ bitsOf 1 z → Encodes K.backend (G.formatted «type_byte») (G.formatsOf «type_byte» z (now («column_formats» .entry))) (now (out .entry)) r (now (out .exit))) ⌝ }
 {
-    let able = column_formats.len() <= 32767;
+    let able = column_formats.len() <= MOST_SIGNED;
     let size = plus(column_formats.len() * 2, 7);
     let r = verdict(able, SMALL, size, out.len());
     let Encoded::Done(n) = r else {

@@ -4,9 +4,10 @@ ghost use mathlib.Core.Bool.{true};
 ghost use mathlib.Core.Path.{_≡_};
 ghost use lib.ListN.{length};
 ghost use Rattle.protocol.specs.Encode.{Encodes, valuesGiven};
+ghost use Rattle.protocol.specs.Fields.{most, signedCount};
 ghost use Rattle.protocol.specs.Kinds as K;
 ghost use Rattle.writers.specs.Given.{isSome};
-ghost use Rattle.writers.specs.Writing.{Framed};
+ghost use Rattle.writers.specs.Writing.{WroteFrame};
 ghost use Rattle.encode.specs.Given as G;
 use crate::bare;
 use crate::put_values;
@@ -16,10 +17,11 @@ use protocol::data::MESSAGE_TYPE_BYTE_DATA_ROW;
 use protocol::data::MESSAGE_TYPE_BYTE_NO_DATA;
 use protocol::data::MESSAGE_TYPE_BYTE_PARAMETER_DESCRITION;
 use protocol::kinds::LARGE;
-use row_fields::Pen;
+use protocol::kinds::MOST_SIGNED;
+use row_fields::Pass;
 use row_fields::begin;
 use row_fields::each;
-use row_fields::writer;
+use row_fields::writing_pass;
 use writers::plus;
 use writers::put_head;
 use writers::put_oids;
@@ -31,33 +33,20 @@ use writers::verdict;
 pub fn row_description(fields: &[FieldDescription], run: &[u8], out: &mut [u8]) -> Encoded
     ensures { λ r. ⌜ Encodes K.backend K.rowDescription (G.rowDescription (now (fields .entry)) (now (run .entry))) (now (out .entry)) r (now (out .exit)) ⌝ }
 {
-    let blank = Pen {
+    let measuring = Pass {
         at: 0,
         ok: true,
         writing: false,
     };
-    let measured = each(fields, run, out, blank);
+    let measured = each(fields, run, out, measuring);
     let r = begin(measured, fields.len(), out);
-    each(fields, run, out, writer(r));
+    each(fields, run, out, writing_pass(r));
     r
 }
 
-// For callers that have one field or two by value. Walked by hand: the array is lent to row_description.
-pub fn row_description_of_one(fields: [FieldDescription; 1], run: &[u8], out: &mut [u8]) -> Encoded
-    ensures { λ r. ⌜ Encodes K.backend K.rowDescription (G.rowDescription fields (now (run .entry))) (now (out .entry)) r (now (out .exit)) ⌝ }
-{
-    row_description(&fields, run, out)
-}
-
-pub fn row_description_of_two(fields: [FieldDescription; 2], run: &[u8], out: &mut [u8]) -> Encoded
-    ensures { λ r. ⌜ Encodes K.backend K.rowDescription (G.rowDescription fields (now (run .entry))) (now (out .entry)) r (now (out .exit)) ⌝ }
-{
-    row_description(&fields, run, out)
-}
-
 fn write_parameter_description(types: &[u32], n: usize, out: &mut [u8])
-    requires { ⌜ (n ≡ 4 * length (now types) + 7) × (n ≤ length (now out)) × (n ≤ K.largeFrame) × (length (now types) ≤ 32767) ⌝ }
-    ensures { λ r. ⌜ Framed K.typed K.parameterDescription (G.parameterDescription (now (types .entry))) (now (out .entry)) (now (out .exit)) ⌝ }
+    requires { ⌜ (n ≡ 4 * length (now types) + 7) × (n ≤ length (now out)) × (n ≤ K.largeFrame) × (length (now types) ≤ most signedCount) ⌝ }
+    ensures { λ r. ⌜ WroteFrame K.typed K.parameterDescription (G.parameterDescription (now (types .entry))) (now (out .entry)) (now (out .exit)) ⌝ }
 {
     let at = put_head(out, MESSAGE_TYPE_BYTE_PARAMETER_DESCRITION, n);
     put_oids(out, at, types);
@@ -66,7 +55,7 @@ fn write_parameter_description(types: &[u32], n: usize, out: &mut [u8])
 pub fn parameter_description(types: &[u32], out: &mut [u8]) -> Encoded
     ensures { λ r. ⌜ Encodes K.backend K.parameterDescription (G.parameterDescription (now (types .entry))) (now (out .entry)) r (now (out .exit)) ⌝ }
 {
-    let able = types.len() <= 32767;
+    let able = types.len() <= MOST_SIGNED;
     let size = plus(types.len() * 4, 6);
     let r = verdict(able, LARGE, size, out.len());
     let Encoded::Done(n) = r else {
@@ -77,8 +66,8 @@ pub fn parameter_description(types: &[u32], out: &mut [u8]) -> Encoded
 }
 
 fn write_data_row(lengths: &[i32], joined: &[u8], n: usize, out: &mut [u8])
-    requires { ⌜ (n ≡ length (now joined) + 4 * length (now lengths) + 7) × (n ≤ length (now out)) × (n ≤ K.largeFrame) × (length (now lengths) ≤ 32767) × (isSome (valuesGiven (now lengths) (now joined)) ≡ true) ⌝ }
-    ensures { λ r. ⌜ Framed K.typed K.dataRow (G.dataRow (now (lengths .entry)) (now (joined .entry))) (now (out .entry)) (now (out .exit)) ⌝ }
+    requires { ⌜ (n ≡ length (now joined) + 4 * length (now lengths) + 7) × (n ≤ length (now out)) × (n ≤ K.largeFrame) × (length (now lengths) ≤ most signedCount) × (isSome (valuesGiven (now lengths) (now joined)) ≡ true) ⌝ }
+    ensures { λ r. ⌜ WroteFrame K.typed K.dataRow (G.dataRow (now (lengths .entry)) (now (joined .entry))) (now (out .entry)) (now (out .exit)) ⌝ }
 {
     let at = put_head(out, MESSAGE_TYPE_BYTE_DATA_ROW, n);
     put_values(out, at, lengths, joined);
@@ -87,7 +76,7 @@ fn write_data_row(lengths: &[i32], joined: &[u8], n: usize, out: &mut [u8])
 pub fn data_row(lengths: &[i32], joined: &[u8], out: &mut [u8]) -> Encoded
     ensures { λ r. ⌜ Encodes K.backend K.dataRow (G.dataRow (now (lengths .entry)) (now (joined .entry))) (now (out .entry)) r (now (out .exit)) ⌝ }
 {
-    let able = values_given(lengths, joined) & (lengths.len() <= 32767);
+    let able = values_given(lengths, joined) & (lengths.len() <= MOST_SIGNED);
     let size = plus(joined.len(), lengths.len() * 4 + 6);
     let r = verdict(able, LARGE, size, out.len());
     let Encoded::Done(n) = r else {

@@ -6,9 +6,10 @@ ghost use lib.IntN.{ℤ};
 ghost use lib.ListN.{length};
 ghost use Rattle.protocol.specs.Bytes.{bitsOf};
 ghost use Rattle.protocol.specs.Encode.{Encodes, valuesGiven};
+ghost use Rattle.protocol.specs.Fields.{most, signedCount};
 ghost use Rattle.protocol.specs.Kinds as K;
 ghost use Rattle.writers.specs.Given.{isSome};
-ghost use Rattle.writers.specs.Writing.{Framed};
+ghost use Rattle.writers.specs.Writing.{WroteFrame};
 ghost use Rattle.encode.specs.Given as G;
 use crate::bare;
 use crate::put_values;
@@ -26,6 +27,7 @@ use protocol::extendedquery::MESSAGE_TYPE_BYTE_PORTAL_SUSPENDED;
 use protocol::extendedquery::MESSAGE_TYPE_BYTE_SYNC;
 use protocol::extendedquery::is_target;
 use protocol::kinds::LARGE;
+use protocol::kinds::MOST_SIGNED;
 use protocol::kinds::SMALL;
 use writers::bits32;
 use writers::no_zero;
@@ -41,8 +43,8 @@ use writers::values::values_given;
 use writers::verdict;
 
 fn write_parse(name: &[u8], query: &[u8], type_oids: &[u32], n: usize, out: &mut [u8])
-    requires { ⌜ (n ≡ length (now name) + length (now query) + 4 * length (now «type_oids») + 9) × (n ≤ length (now out)) × (n ≤ K.largeFrame) × (length (now «type_oids») ≤ 32767) ⌝ }
-    ensures { λ r. ⌜ Framed K.typed K.parse (G.parse (now (name .entry)) (now (query .entry)) (now («type_oids» .entry))) (now (out .entry)) (now (out .exit)) ⌝ }
+    requires { ⌜ (n ≡ length (now name) + length (now query) + 4 * length (now «type_oids») + 9) × (n ≤ length (now out)) × (n ≤ K.largeFrame) × (length (now «type_oids») ≤ most signedCount) ⌝ }
+    ensures { λ r. ⌜ WroteFrame K.typed K.parse (G.parse (now (name .entry)) (now (query .entry)) (now («type_oids» .entry))) (now (out .entry)) (now (out .exit)) ⌝ }
 {
     let at = put_head(out, MESSAGE_TYPE_BYTE_PARSE, n);
     let at = put_text(out, at, name);
@@ -53,7 +55,7 @@ fn write_parse(name: &[u8], query: &[u8], type_oids: &[u32], n: usize, out: &mut
 pub fn parse(name: &[u8], query: &[u8], type_oids: &[u32], out: &mut [u8]) -> Encoded
     ensures { λ r. ⌜ Encodes K.frontend K.parse (G.parse (now (name .entry)) (now (query .entry)) (now («type_oids» .entry))) (now (out .entry)) r (now (out .exit)) ⌝ }
 {
-    let able = no_zero(name) & (no_zero(query) & (type_oids.len() <= 32767));
+    let able = no_zero(name) & (no_zero(query) & (type_oids.len() <= MOST_SIGNED));
     let size = plus4(name.len(), query.len(), type_oids.len() * 4, 8);
     let r = verdict(able, LARGE, size, out.len());
     let Encoded::Done(n) = r else {
@@ -73,8 +75,8 @@ fn write_bind(
     n: usize,
     out: &mut [u8],
 )
-    requires { ⌜ (n ≡ length (now «portal_name») + length (now «statement_name») + 2 * length (now «parameter_format_codes») + 4 * length (now lengths) + length (now joined) + 2 * length (now «result_column_format_codes») + 13) × (n ≤ length (now out)) × (n ≤ K.largeFrame) × (length (now «parameter_format_codes») ≤ 32767) × (length (now lengths) ≤ 32767) × (length (now «result_column_format_codes») ≤ 32767) × (isSome (valuesGiven (now lengths) (now joined)) ≡ true) ⌝ }
-    ensures { λ r. ⌜ Framed K.typed K.bind (G.bind (now («portal_name» .entry)) (now («statement_name» .entry)) (now («parameter_format_codes» .entry)) (now (lengths .entry)) (now (joined .entry)) (now («result_column_format_codes» .entry))) (now (out .entry)) (now (out .exit)) ⌝ }
+    requires { ⌜ (n ≡ length (now «portal_name») + length (now «statement_name») + 2 * length (now «parameter_format_codes») + 4 * length (now lengths) + length (now joined) + 2 * length (now «result_column_format_codes») + 13) × (n ≤ length (now out)) × (n ≤ K.largeFrame) × (length (now «parameter_format_codes») ≤ most signedCount) × (length (now lengths) ≤ most signedCount) × (length (now «result_column_format_codes») ≤ most signedCount) × (isSome (valuesGiven (now lengths) (now joined)) ≡ true) ⌝ }
+    ensures { λ r. ⌜ WroteFrame K.typed K.bind (G.bind (now («portal_name» .entry)) (now («statement_name» .entry)) (now («parameter_format_codes» .entry)) (now (lengths .entry)) (now (joined .entry)) (now («result_column_format_codes» .entry))) (now (out .entry)) (now (out .exit)) ⌝ }
 {
     let at = put_head(out, MESSAGE_TYPE_BYTE_BIND, n);
     let at = put_text(out, at, portal_name);
@@ -95,8 +97,8 @@ pub fn bind(
 ) -> Encoded
     ensures { λ r. ⌜ Encodes K.frontend K.bind (G.bind (now («portal_name» .entry)) (now («statement_name» .entry)) (now («parameter_format_codes» .entry)) (now (lengths .entry)) (now (joined .entry)) (now («result_column_format_codes» .entry))) (now (out .entry)) r (now (out .exit)) ⌝ }
 {
-    let few = (parameter_format_codes.len() <= 32767)
-        & ((lengths.len() <= 32767) & (result_column_format_codes.len() <= 32767));
+    let few = (parameter_format_codes.len() <= MOST_SIGNED)
+        & ((lengths.len() <= MOST_SIGNED) & (result_column_format_codes.len() <= MOST_SIGNED));
     let able = values_given(lengths, joined)
         & (no_zero(portal_name) & (no_zero(statement_name) & few));
     let lists = plus4(
@@ -125,7 +127,7 @@ pub fn bind(
 
 fn write_aim(type_byte: u8, target_type: u8, name: &[u8], n: usize, out: &mut [u8])
     requires { ⌜ (n ≡ length (now name) + 7) × (n ≤ length (now out)) × (n ≤ K.smallFrame) ⌝ }
-    ensures { λ r. ⌜ Framed K.typed (G.aimed «type_byte») (G.aimOf «type_byte» «target_type» (now (name .entry))) (now (out .entry)) (now (out .exit)) ⌝ }
+    ensures { λ r. ⌜ WroteFrame K.typed (G.aimed «type_byte») (G.aimOf «type_byte» «target_type» (now (name .entry))) (now (out .entry)) (now (out .exit)) ⌝ }
 {
     let at = put_head(out, type_byte, n);
     let at = put_byte(out, at, target_type);
@@ -161,7 +163,7 @@ pub fn describe(target_type: u8, name: &[u8], out: &mut [u8]) -> Encoded
 // rows is the bits of the number of rows.
 fn write_execute(name: &[u8], rows: u32, n: usize, out: &mut [u8])
     requires { ⌜ (n ≡ length (now name) + 10) × (n ≤ length (now out)) × (n ≤ K.smallFrame) ⌝ }
-    ensures { λ r. ⌜ ((z : ℤ) → rows ≡ bitsOf 4 z → Framed K.typed K.execute (G.execute (now (name .entry)) z) (now (out .entry)) (now (out .exit))) ⌝ }
+    ensures { λ r. ⌜ ((z : ℤ) → rows ≡ bitsOf 4 z → WroteFrame K.typed K.execute (G.execute (now (name .entry)) z) (now (out .entry)) (now (out .exit))) ⌝ }
 {
     let at = put_head(out, MESSAGE_TYPE_BYTE_EXECUTE, n);
     let at = put_text(out, at, name);

@@ -11,9 +11,10 @@ ghost use mathlib.Core.Option.{some};
 ghost use mathlib.Core.Path.{_≡_};
 ghost use lib.ListN.{length};
 ghost use Rattle.protocol.specs.Encode.{Encodes, valuesGiven};
+ghost use Rattle.protocol.specs.Fields.{most, signedCount};
 ghost use Rattle.protocol.specs.Kinds.{frontend, smallFrame, typed, values};
 ghost use Rattle.writers.specs.Given.{isSome};
-ghost use Rattle.writers.specs.Writing.{Framed};
+ghost use Rattle.writers.specs.Writing.{WroteFrame};
 ghost use Rattle.encode.specs.Given.{fieldless, textOf, texted};
 ghost use Rattle.encode.specs.Writing.{WroteGiven};
 use protocol::Encoded;
@@ -30,7 +31,7 @@ use writers::verdict;
 
 fn write_bare(type_byte: u8, out: &mut [u8])
     requires { ⌜ 5 ≤ length (now out) ⌝ }
-    ensures { λ r. ⌜ Framed typed (fieldless «type_byte») (some tt) (now (out .entry)) (now (out .exit)) ⌝ }
+    ensures { λ r. ⌜ WroteFrame typed (fieldless «type_byte») (some tt) (now (out .entry)) (now (out .exit)) ⌝ }
 {
     put_head(out, type_byte, 5);
 }
@@ -49,7 +50,7 @@ fn bare(type_byte: u8, out: &mut [u8]) -> Encoded
 
 fn write_one_text(type_byte: u8, s: &[u8], n: usize, out: &mut [u8])
     requires { ⌜ (n ≡ length (now s) + 6) × (n ≤ length (now out)) × (n ≤ smallFrame) ⌝ }
-    ensures { λ r. ⌜ Framed typed (texted «type_byte») (textOf «type_byte» (now (s .entry))) (now (out .entry)) (now (out .exit)) ⌝ }
+    ensures { λ r. ⌜ WroteFrame typed (texted «type_byte») (textOf «type_byte» (now (s .entry))) (now (out .entry)) (now (out .exit)) ⌝ }
 {
     let at = put_head(out, type_byte, n);
     put_text(out, at, s);
@@ -73,7 +74,7 @@ fn one_text(type_byte: u8, s: &[u8], out: &mut [u8]) -> Encoded
 
 // Their count; then the length of each, and its bytes.
 fn put_values(out: &mut [u8], at: usize, lengths: &[i32], joined: &[u8]) -> usize
-    requires { ⌜ (at + 4 * length (now lengths) + length (now joined) + 2 ≤ length (now out)) × (length (now lengths) ≤ 32767) × (isSome (valuesGiven (now lengths) (now joined)) ≡ true) ⌝ }
+    requires { ⌜ (at + 4 * length (now lengths) + length (now joined) + 2 ≤ length (now out)) × (length (now lengths) ≤ most signedCount) × (isSome (valuesGiven (now lengths) (now joined)) ≡ true) ⌝ }
     ensures { λ r. ⌜ WroteGiven values (valuesGiven (now (lengths .entry)) (now (joined .entry))) (now (out .entry)) at (2 + (4 * length (now (lengths .entry)) + length (now (joined .entry)))) (now (out .exit)) r ⌝ }
 {
     let mut p = put_half(out, at, lengths.len() as u16);

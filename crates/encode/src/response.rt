@@ -10,7 +10,7 @@ ghost use Rattle.protocol.specs.Encode.{Encodes, errorFieldsGiven, gssKind, ssl
 ghost use Rattle.protocol.specs.Fields.{ended};
 ghost use Rattle.protocol.specs.Kinds as K;
 ghost use Rattle.writers.specs.Given.{isSome};
-ghost use Rattle.writers.specs.Writing.{Framed};
+ghost use Rattle.writers.specs.Writing.{WroteFrame};
 ghost use Rattle.encode.specs.Given as G;
 ghost use Rattle.encode.specs.Writing.{WroteGiven};
 use crate::bare;
@@ -52,7 +52,7 @@ pub fn empty_query_response(out: &mut [u8]) -> Encoded
 
 fn write_ready_for_query(status: u8, out: &mut [u8])
     requires { ⌜ 6 ≤ length (now out) ⌝ }
-    ensures { λ r. ⌜ Framed K.typed K.readyForQuery (G.readyForQuery status) (now (out .entry)) (now (out .exit)) ⌝ }
+    ensures { λ r. ⌜ WroteFrame K.typed K.readyForQuery (G.readyForQuery status) (now (out .entry)) (now (out .exit)) ⌝ }
 {
     let at = put_head(out, MESSAGE_TYPE_BYTE_READY_FOR_QUERY, 6);
     put_byte(out, at, status);
@@ -97,7 +97,7 @@ fn write_report(
     out: &mut [u8],
 )
     requires { ⌜ (n ≡ 2 * length (now codes) + length (now joined) + 6) × (n ≤ length (now out)) × (n ≤ K.largeFrame) × (isSome (errorFieldsGiven (now codes) (now lengths) (now joined)) ≡ true) ⌝ }
-    ensures { λ r. ⌜ Framed K.typed (G.reported «type_byte») (G.reportOf «type_byte» (now (codes .entry)) (now (lengths .entry)) (now (joined .entry))) (now (out .entry)) (now (out .exit)) ⌝ }
+    ensures { λ r. ⌜ WroteFrame K.typed (G.reported «type_byte») (G.reportOf «type_byte» (now (codes .entry)) (now (lengths .entry)) (now (joined .entry))) (now (out .entry)) (now (out .exit)) ⌝ }
 {
     let at = put_head(out, type_byte, n);
     put_errors(out, at, codes, lengths, joined);
@@ -144,7 +144,7 @@ pub fn notice_response(codes: &[u8], lengths: &[u32], joined: &[u8], out: &mut [
 // pid is the bits of the process number.
 fn write_notification_response(pid: u32, channel: &[u8], payload: &[u8], n: usize, out: &mut [u8])
     requires { ⌜ (n ≡ length (now channel) + length (now payload) + 11) × (n ≤ length (now out)) × (n ≤ K.largeFrame) ⌝ }
-    ensures { λ r. ⌜ ((z : ℤ) → pid ≡ bitsOf 4 z → Framed K.typed K.notificationResponse (G.notificationResponse z (now (channel .entry)) (now (payload .entry))) (now (out .entry)) (now (out .exit))) ⌝ }
+    ensures { λ r. ⌜ ((z : ℤ) → pid ≡ bitsOf 4 z → WroteFrame K.typed K.notificationResponse (G.notificationResponse z (now (channel .entry)) (now (payload .entry))) (now (out .entry)) (now (out .exit))) ⌝ }
 {
     let at = put_head(out, MESSAGE_TYPE_BYTE_NOTIFICATION_RESPONSE, n);
     let at = put_word(out, at, pid);

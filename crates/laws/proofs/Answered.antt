@@ -4,7 +4,6 @@ use mathlib.Core.Bool.{true, cond, false≢true}
 use mathlib.Core.Logic.{inl, inr}
 use mathlib.Core.Option.{Option, some, none}
 use mathlib.Core.Path.{_≡_, refl, ap, sym, _∙_}
-use native.Mathlib.Omega.{arith}
 use Rattle.protocol.specs.declared.Decoded.the-variants as D
 use Rattle.protocol.specs.declared.Decoded.{Decoded}
 use Rattle.protocol.specs.declared.Element.the-variants as E
@@ -14,6 +13,7 @@ use Rattle.protocol.specs.declared.Encoded.{Encoded}
 use Rattle.protocol.specs.declared.List.{List as ListSlot}
 use Rattle.protocol.specs.declared.Message.{Message}
 use Rattle.protocol.specs.Answers.{Answer, success, needsMore, refusal, Unsuccessful, ofDecoded, ofElement, ofEncoded}
+use Rattle.protocol.proofs.Basics.{zero-one}
 use Rattle.reader.specs.Row.{ofRow}
 use Rattle.reader.specs.declared.row.Row.the-variants as R
 use Rattle.reader.specs.declared.row.Row.{Row}
@@ -131,8 +131,8 @@ pub needs-refusal : {X : Type 0} {number place : ℕ} → needsMore {X = X} ≡ 
 needs-refusal {X} e = false≢true (sym (ap (λ (a : Answer X). a .needMore) e))
 
 pub not-success : {X : Type 0} {x : X} {n : ℕ} → Unsuccessful (success x n) → ⊥
-not-success {X} (inl e) = let v = ap (λ (a : Answer X). a .value) e in let z : _≡_ {A = ℕ} 0 1 = cc in omega arith
-not-success {X} (inr (number, place, e)) = let v = ap (λ (a : Answer X). a .value) e in let z : _≡_ {A = ℕ} 0 1 = cc in omega arith
+not-success {X} (inl e) = let v = ap (λ (a : Answer X). a .value) e in zero-one cc
+not-success {X} (inr (number, place, e)) = let v = ap (λ (a : Answer X). a .value) e in zero-one cc
 
 pub encoded-unsuccessful : (r : Encoded) → Unsuccessful (ofEncoded r) → (number : ℕ) × (place : ℕ) × (r ≡ N.Refused number place)
 unfolding ofEncoded

@@ -17,6 +17,7 @@ use Rattle.protocol.specs.Bytes.{Bytes, partOf}
 use Rattle.protocol.specs.Each.{HoldsEach}
 use Rattle.protocol.specs.Fields.{ItemContent, ValueInRange, AtomInRange, ItemInRange, ItemsInRange}
 use Rattle.protocol.specs.Kinds.{oid, format, nullable, rowField, errorField}
+use Rattle.protocol.proofs.Basics.{zero-one}
 use Rattle.laws.specs.Arguments.{nth, Some, All, Unsigned, Signed, TypedField, itself, sizeOf, total, BelowNull, valueAt, Outside}
 use Rattle.laws.specs.EncodeStatements.{Values, ErrorFields, RowFieldIs, RowFields, NumberItems, ArgumentsInRange}
 use Rattle.laws.proofs.Numbers.{bytes-take, bytes-drop}
@@ -30,13 +31,13 @@ record Before {A : Type 0} (x : A) (o : Option (List A)) (cs : List A) : Type 0 
   is : cs ≡ x ∷ rest
 
 before : {A : Type 0} (x : A) (o : Option (List A)) (cs : List A) → oneBefore x o ≡ some cs → Before x o cs
-before x none cs e = let z : _≡_ {A = ℕ} 0 1 = cc in absurd (omega arith)
+before x none cs e = absurd (zero-one cc)
 before x (some rest) cs e = let q : x ∷ rest ≡ cs = cc in record { rest = rest; was = refl; is = sym q }
 
 -- a test that let a list through
 let-through : {A : Type 0} (t : Bool) (o : Option (List A)) (cs : List A) → cond t o none ≡ some cs → (t ≡ true) × (o ≡ some cs)
 let-through true o cs e = (refl, e)
-let-through false o cs e = let z : _≡_ {A = ℕ} 0 1 = cc in absurd (omega arith)
+let-through false o cs e = absurd (zero-one cc)
 
 -- there is a list, or there is none
 either : {A : Type 0} (o : Option (List A)) → ((cs : List A) × (o ≡ some cs)) ⊎ (o ≡ none)
@@ -44,7 +45,7 @@ either none = inr refl
 either (some cs) = inl (cs, refl)
 
 not-both : {A : Type 0} (o : Option (List A)) (cs : List A) → o ≡ some cs → o ≡ none → ⊥
-not-both o cs e f = let z : _≡_ {A = ℕ} 0 1 = cc in omega arith
+not-both o cs e f = zero-one cc
 
 -- none exactly where something is wrong: where there is a list nothing is, and where nothing is there is a list
 none-exactly : {A W : Type 0} (o : Option (List A)) → ((cs : List A) → o ≡ some cs → W → ⊥) → (o ≡ none → W) → (o ≡ none) ↔ W
@@ -73,15 +74,15 @@ unfolding valuesGiven
 first-value (pos n) ls bs cs e =
     let t = let-through (leb n (length bs)) _ cs e in
     let b = before (some (take n bs), tt) (valuesGiven ls (drop n bs)) cs (t .1) in
-    record { fits = leb-true _ _ (t .0); right = λ h. let q = h .1 in let z : _≡_ {A = ℕ} 0 1 = cc in omega arith; rest = b .rest; was = b .was; is = b .is }
+    record { fits = leb-true _ _ (t .0); right = λ h. let q = h .1 in zero-one cc; rest = b .rest; was = b .was; is = b .is }
 first-value (negsuc zero) ls bs cs e =
     let b = before (none, tt) (valuesGiven ls bs) cs e in
     record { fits = omega arith; right = λ h. let q = h .1 in let y : 0 ≡ suc (h .0) = cc in omega arith; rest = b .rest; was = b .was; is = b .is }
-first-value (negsuc (suc n)) ls bs cs e = let z : _≡_ {A = ℕ} 0 1 = cc in absurd (omega arith)
+first-value (negsuc (suc n)) ls bs cs e = absurd (zero-one cc)
 
 values-items : (ls : List ℤ) (bs : List ℕ) (cs : List (ItemContent nullable)) → valuesGiven ls bs ≡ some cs → (i : ℕ) (z : ℤ) → nth ls i ≡ some z → nth cs i ≡ some (valueAt z (total sizeOf (take i ls)) bs, tt)
 unfolding nth total
-values-items [] bs cs e i z h = let z : _≡_ {A = ℕ} 0 1 = cc in absurd (omega arith)
+values-items [] bs cs e i z h = absurd (zero-one cc)
 values-items (y ∷ ls) bs cs e zero z h =
     let q : y ≡ z = cc in
     let f = first-value y ls bs cs e in
@@ -93,13 +94,13 @@ values-items (y ∷ ls) bs cs e (suc i) z h =
 values-many : (ls : List ℤ) (bs : List ℕ) (cs : List (ItemContent nullable)) → valuesGiven ls bs ≡ some cs → length cs ≡ length ls
 unfolding valuesGiven
 values-many [] [] cs e = let q : [] ≡ cs = cc in rw (← q) refl
-values-many [] (b ∷ bs) cs e = let z : _≡_ {A = ℕ} 0 1 = cc in absurd (omega arith)
+values-many [] (b ∷ bs) cs e = absurd (zero-one cc)
 values-many (z ∷ ls) bs cs e = let f = first-value z ls bs cs e in rw (f .is) (ap suc (values-many ls (drop (sizeOf z) bs) (f .rest) (f .was)))
 
 values-right : (ls : List ℤ) (bs : List ℕ) (cs : List (ItemContent nullable)) → valuesGiven ls bs ≡ some cs → (Some BelowNull ls → ⊥) × (total sizeOf ls ≡ length bs)
 unfolding valuesGiven Some total
 values-right [] [] cs e = (λ h. h, refl)
-values-right [] (b ∷ bs) cs e = let z : _≡_ {A = ℕ} 0 1 = cc in absurd (omega arith)
+values-right [] (b ∷ bs) cs e = absurd (zero-one cc)
 values-right (z ∷ ls) bs cs e =
     let f = first-value z ls bs cs e in
     let ih = values-right ls (drop (sizeOf z) bs) (f .rest) (f .was) in
@@ -109,7 +110,7 @@ values-right (z ∷ ls) bs cs e =
 none-by : {A : Type 0} (x : A) (o : Option (List A)) (t : Bool) → cond t (oneBefore x o) none ≡ none → (t ≡ false) ⊎ (o ≡ none)
 none-by x o false e = inl refl
 none-by x none true e = inr refl
-none-by x (some cs) true e = let z : _≡_ {A = ℕ} 0 1 = cc in absurd (omega arith)
+none-by x (some cs) true e = absurd (zero-one cc)
 
 -- n bytes are taken for the first: where there are fewer the total is wrong, and where it is wrong behind them it is wrong at all
 total-wrong : {A : Type 0} (size : A → ℕ) (x : A) (xs : List A) (bs : List ℕ) → (leb (size x) (length bs) ≡ false) ⊎ (total size xs ≡ length (drop (size x) bs) → ⊥) → size x + total size xs ≡ length bs → ⊥
@@ -126,7 +127,7 @@ wrong-behind P size x xs bs y o e rest =
 
 values-wrong : (ls : List ℤ) (bs : List ℕ) → valuesGiven ls bs ≡ none → Some BelowNull ls ⊎ (total sizeOf ls ≡ length bs → ⊥)
 unfolding valuesGiven Some total
-values-wrong [] [] e = let z : _≡_ {A = ℕ} 0 1 = cc in absurd (omega arith)
+values-wrong [] [] e = absurd (zero-one cc)
 values-wrong [] (b ∷ bs) e = inr (λ h. omega arith)
 values-wrong (pos n ∷ ls) bs e = wrong-behind BelowNull sizeOf (pos n) ls bs (some (take n bs), tt) (valuesGiven ls (drop n bs)) e (values-wrong ls (drop n bs))
 values-wrong (negsuc zero ∷ ls) bs e = ⊎-map inr (λ h q. h (omega arith)) (values-wrong ls bs (⊎-elim (λ t. absurd (false≢true (sym t))) (λ h. h) (none-by (none, tt) (valuesGiven ls bs) true e)))
@@ -157,8 +158,8 @@ first-error c n cs ns bs fs e =
 
 errors-items : (cs ns bs : List ℕ) (fs : List (ItemContent errorField)) → errorFieldsGiven cs ns bs ≡ some fs → (i code n : ℕ) → nth cs i ≡ some code → nth ns i ≡ some n → nth fs i ≡ some (code, (take n (drop (total itself (take i ns)) bs), tt))
 unfolding nth total
-errors-items [] ns bs fs e i code n h g = let z : _≡_ {A = ℕ} 0 1 = cc in absurd (omega arith)
-errors-items (c ∷ cs) [] bs fs e i code n h g = let z : _≡_ {A = ℕ} 0 1 = cc in absurd (omega arith)
+errors-items [] ns bs fs e i code n h g = absurd (zero-one cc)
+errors-items (c ∷ cs) [] bs fs e i code n h g = absurd (zero-one cc)
 errors-items (c ∷ cs) (m ∷ ns) bs fs e zero code n h g =
     let q : c ≡ code = cc in
     let p : m ≡ n = cc in
@@ -171,9 +172,9 @@ errors-items (c ∷ cs) (m ∷ ns) bs fs e (suc i) code n h g =
 errors-right : (cs ns bs : List ℕ) (fs : List (ItemContent errorField)) → errorFieldsGiven cs ns bs ≡ some fs → (length fs ≡ length cs) × (length cs ≡ length ns) × (total itself ns ≡ length bs)
 unfolding errorFieldsGiven total
 errors-right [] [] [] fs e = let q : [] ≡ fs = cc in (rw (← q) refl, refl, refl)
-errors-right [] [] (b ∷ bs) fs e = let z : _≡_ {A = ℕ} 0 1 = cc in absurd (omega arith)
-errors-right [] (n ∷ ns) bs fs e = let z : _≡_ {A = ℕ} 0 1 = cc in absurd (omega arith)
-errors-right (c ∷ cs) [] bs fs e = let z : _≡_ {A = ℕ} 0 1 = cc in absurd (omega arith)
+errors-right [] [] (b ∷ bs) fs e = absurd (zero-one cc)
+errors-right [] (n ∷ ns) bs fs e = absurd (zero-one cc)
+errors-right (c ∷ cs) [] bs fs e = absurd (zero-one cc)
 errors-right (c ∷ cs) (n ∷ ns) bs fs e =
     let f = first-error c n cs ns bs fs e in
     let ih = errors-right cs ns (drop n bs) (f .rest) (f .was) in
@@ -181,7 +182,7 @@ errors-right (c ∷ cs) (n ∷ ns) bs fs e =
 
 errors-wrong : (cs ns bs : List ℕ) → errorFieldsGiven cs ns bs ≡ none → (length cs ≡ length ns → ⊥) ⊎ (total itself ns ≡ length bs → ⊥)
 unfolding errorFieldsGiven total
-errors-wrong [] [] [] e = let z : _≡_ {A = ℕ} 0 1 = cc in absurd (omega arith)
+errors-wrong [] [] [] e = absurd (zero-one cc)
 errors-wrong [] [] (b ∷ bs) e = inr (λ h. omega arith)
 errors-wrong [] (n ∷ ns) bs e = inl (λ h. omega arith)
 errors-wrong (c ∷ cs) [] bs e = inl (λ h. omega arith)
@@ -224,7 +225,7 @@ row-is d run h =
 
 rows-items : (ds : List FieldDescription) (run : List ℕ) (fs : List (ItemContent rowField)) → rowFieldsGiven ds run ≡ some fs → (i : ℕ) (d : FieldDescription) → nth ds i ≡ some d → (c : ItemContent rowField) × (nth fs i ≡ some c) × RowFieldIs run d c
 unfolding nth
-rows-items [] run fs e i d h = let z : _≡_ {A = ℕ} 0 1 = cc in absurd (omega arith)
+rows-items [] run fs e i d h = absurd (zero-one cc)
 rows-items (d ∷ ds) run fs e zero x h =
     let q : d ≡ x = cc in
     let f = first-row d ds run fs e in
@@ -244,7 +245,7 @@ rows-right (d ∷ ds) run fs e =
 
 rows-wrong : (ds : List FieldDescription) (run : List ℕ) → rowFieldsGiven ds run ≡ none → Some (Outside run) ds
 unfolding rowFieldsGiven Some
-rows-wrong [] run e = let z : _≡_ {A = ℕ} 0 1 = cc in absurd (omega arith)
+rows-wrong [] run e = absurd (zero-one cc)
 rows-wrong (d ∷ ds) run e = ⊎-map (λ t. leb-false _ _ t) (rows-wrong ds run) (none-by (rowFieldGiven d run) (rowFieldsGiven ds run) (inside d run) e)
 
 pub row-fields : RowFields
@@ -258,7 +259,7 @@ row-fields ds run = record {
 
 pub number-items : NumberItems
 unfolding nth
-number-items A [] i x e = let z : _≡_ {A = ℕ} 0 1 = cc in absurd (omega arith)
+number-items A [] i x e = absurd (zero-one cc)
 number-items A (y ∷ xs) zero x e = let q : y ≡ x = cc in rw q refl
 number-items A (y ∷ xs) (suc i) x e = number-items A xs i x e
 
@@ -282,7 +283,7 @@ value-range (negsuc n) bs h b = tt
 values-range : (ls : List ℤ) (bs : List ℕ) (cs : List (ItemContent nullable)) → All (Signed 4) ls → Bytes bs → valuesGiven ls bs ≡ some cs → ItemsInRange nullable cs
 unfolding All valuesGiven ItemsInRange ItemInRange HoldsEach AtomInRange
 values-range [] [] cs h b e = let q : [] ≡ cs = cc in rw (← q) tt
-values-range [] (x ∷ bs) cs h b e = let z : _≡_ {A = ℕ} 0 1 = cc in absurd (omega arith)
+values-range [] (x ∷ bs) cs h b e = absurd (zero-one cc)
 values-range (z ∷ ls) bs cs h b e =
     let f = first-value z ls bs cs e in
     rw (f .is) ((value-range z bs (h .0) b, tt), values-range ls (drop (sizeOf z) bs) (f .rest) (h .1) (bytes-drop (sizeOf z) bs b) (f .was))
@@ -290,9 +291,9 @@ values-range (z ∷ ls) bs cs h b e =
 errors-range : (cs ns bs : List ℕ) (fs : List (ItemContent errorField)) → Bytes cs → Bytes bs → errorFieldsGiven cs ns bs ≡ some fs → ItemsInRange errorField fs
 unfolding errorFieldsGiven Bytes ItemsInRange ItemInRange HoldsEach AtomInRange
 errors-range [] [] [] fs h b e = let q : [] ≡ fs = cc in rw (← q) tt
-errors-range [] [] (x ∷ bs) fs h b e = let z : _≡_ {A = ℕ} 0 1 = cc in absurd (omega arith)
-errors-range [] (n ∷ ns) bs fs h b e = let z : _≡_ {A = ℕ} 0 1 = cc in absurd (omega arith)
-errors-range (c ∷ cs) [] bs fs h b e = let z : _≡_ {A = ℕ} 0 1 = cc in absurd (omega arith)
+errors-range [] [] (x ∷ bs) fs h b e = absurd (zero-one cc)
+errors-range [] (n ∷ ns) bs fs h b e = absurd (zero-one cc)
+errors-range (c ∷ cs) [] bs fs h b e = absurd (zero-one cc)
 errors-range (c ∷ cs) (n ∷ ns) bs fs h b e =
     let f = first-error c n cs ns bs fs e in
     rw (f .is) ((h .0, (bytes-take n bs b, tt)), errors-range cs ns (drop n bs) (f .rest) (h .1) (bytes-drop n bs b) (f .was))

@@ -18,6 +18,7 @@ use Rattle.protocol.specs.Fields.{Atom, unsigned, signed, oneOf, text, value, r
 use Rattle.protocol.specs.Reading.{Read, got, bad, andThen, readNumber, oneMore, zeroIn, textAt, readText, valueAt, readValue, readAtom}
 use Rattle.protocol.specs.Refusals.{cut, notAllowed}
 use Rattle.protocol.specs.Rules.{rulesOf}
+use Rattle.protocol.proofs.Basics.{zero-one}
 use Rattle.protocol.proofs.Numbers.{lower, whole}
 use Rattle.laws.specs.Faults.{LastAtom}
 use Rattle.laws.proofs.EachReads.{ReadsBack, Was}
@@ -130,7 +131,7 @@ unfolding oneMore noZero
 ended-by b g n true z e h ih =
     let q : 0 ≡ n = cc in
     rw (← q) (record { content = []; long = refl; plain = refl; split = rw (eqb-true b 0 e) refl })
-ended-by b g n false none e h ih = let z : _≡_ {A = ℕ} 0 1 = cc in absurd (omega arith)
+ended-by b g n false none e h ih = absurd (zero-one cc)
 ended-by b g n false (some m) e h ih =
     let q : suc m ≡ n = cc in
     let r = ih m refl in
@@ -138,7 +139,7 @@ ended-by b g n false (some m) e h ih =
 
 ended : (g : List ℕ) (n : ℕ) → zeroIn g ≡ some n → Ended g n
 unfolding zeroIn
-ended [] n e = let z : _≡_ {A = ℕ} 0 1 = cc in absurd (omega arith)
+ended [] n e = absurd (zero-one cc)
 ended (b ∷ g) n e = ended-by b g n (eqb b 0) (zeroIn g) refl e (ended g)
 
 -- a part of bytes is bytes
@@ -153,7 +154,7 @@ AtomWas rules a f p v q = Was atomBytes atomSlot (readAtom rules) AtomInRange (a
 module _ (rules : Rules) (f : List ℕ) (b : Bytes f) (p : ℕ) where
   text-by : (z : Option ℕ) (v : Span) (q : ℕ) → zeroIn (drop p f) ≡ z → textAt p z ≡ got v q → AtomWas rules text f p v q
   unfolding textAt atomBytes atomSlot AtomInRange atomAble
-  text-by none v q h e = let z : _≡_ {A = ℕ} 0 1 = cc in absurd (omega arith)
+  text-by none v q h e = absurd (zero-one cc)
   text-by (some n) v q h e =
       let t = ended (drop p f) n h in
       let ev : _≡_ {A = Span} (record { start = p; len = n }) v = cc in
@@ -186,7 +187,7 @@ module _ (rules : Rules) (f : List ℕ) (b : Bytes f) (p : ℕ) where
   -- a signed one
   signed-by : (v : ℕ) (r : Read ℕ) (z : ℤ) (q : ℕ) → readNumber (suc v) f p ≡ r → andThen r (λ n a. got (signedOf (suc v) n) a) ≡ got z q → AtomWas rules (signed (suc v)) f p z q
   unfolding atomBytes atomSlot AtomInRange atomAble
-  signed-by v (bad k x) z q r e = let z : _≡_ {A = ℕ} 0 1 = cc in absurd (omega arith)
+  signed-by v (bad k x) z q r e = absurd (zero-one cc)
   signed-by v (got n a) z q r e =
       let ez : signedOf (suc v) n ≡ z = cc in
       let ea : a ≡ q = cc in
@@ -204,7 +205,7 @@ module _ (rules : Rules) (f : List ℕ) (b : Bytes f) (p : ℕ) where
   -- one of some bytes
   one-of-test : (bs : List ℕ) (n a : ℕ) (t : Bool) (v q : ℕ) → isOneOf n bs ≡ t → readNumber 1 f p ≡ got n a → cond t (got n a) (bad notAllowed p) ≡ got v q → AtomWas rules (oneOf bs) f p v q
   unfolding atomBytes atomSlot AtomInRange atomAble
-  one-of-test bs n a false v q m r e = let z : _≡_ {A = ℕ} 0 1 = cc in absurd (omega arith)
+  one-of-test bs n a false v q m r e = absurd (zero-one cc)
   one-of-test bs n a true v q m r e =
       let en : n ≡ v = cc in
       let ea : a ≡ q = cc in
@@ -212,13 +213,13 @@ module _ (rules : Rules) (f : List ℕ) (b : Bytes f) (p : ℕ) where
       rw (← en) (record { content = n; inRange = h .below; writable = m; is = refl; split = h .split ∙ ap (λ (bs : List ℕ). bs ++ drop q f) (sym (byte-be n (h .below))); next = h .next; within = h .within })
 
   one-of-by : (bs : List ℕ) (r : Read ℕ) (v q : ℕ) → readNumber 1 f p ≡ r → andThen r (λ n a. cond (isOneOf n bs) (got n a) (bad notAllowed p)) ≡ got v q → AtomWas rules (oneOf bs) f p v q
-  one-of-by bs (bad k x) v q r e = let z : _≡_ {A = ℕ} 0 1 = cc in absurd (omega arith)
+  one-of-by bs (bad k x) v q r e = absurd (zero-one cc)
   one-of-by bs (got n a) v q r e = one-of-test bs n a (isOneOf n bs) v q refl r e
 
   -- a value: its length word was read, and says how many bytes it has, or NULL
   value-test : (n a : ℕ) (t : Bool) (v : Option Span) (q : ℕ) → NumberWas 4 f p n a → n < 256 ^ 4 / 2 → leb (a + n) (length f) ≡ t → cond t (got (some (record { start = a; len = n })) (a + n)) (bad cut p) ≡ got v q → AtomWas rules value f p v q
   unfolding atomBytes valueBytes atomSlot valueSlot AtomInRange ValueInRange atomAble
-  value-test n a false v q h s m e = let z : _≡_ {A = ℕ} 0 1 = cc in absurd (omega arith)
+  value-test n a false v q h s m e = absurd (zero-one cc)
   value-test n a true v q h s m e =
       let ev : _≡_ {A = Option Span} (some (record { start = a; len = n })) v = cc in
       let eq : a + n ≡ q = cc in
@@ -239,7 +240,7 @@ module _ (rules : Rules) (f : List ℕ) (b : Bytes f) (p : ℕ) where
 
   value-sign : (n a : ℕ) (z : ℤ) (v : Option Span) (q : ℕ) → NumberWas 4 f p n a → signedOf 4 n ≡ z → valueAt z f p a ≡ got v q → AtomWas rules value f p v q
   unfolding valueAt bitsOf atomBytes valueBytes atomSlot valueSlot AtomInRange ValueInRange atomAble
-  value-sign n a (negsuc (suc m)) v q h s e = let z : _≡_ {A = ℕ} 0 1 = cc in absurd (omega arith)
+  value-sign n a (negsuc (suc m)) v q h s e = absurd (zero-one cc)
   value-sign n a (negsuc zero) v q h s e =
       let ev : _≡_ {A = Option Span} none v = cc in
       let ea : a ≡ q = cc in
@@ -252,7 +253,7 @@ module _ (rules : Rules) (f : List ℕ) (b : Bytes f) (p : ℕ) where
       value-test m a (leb (a + m) (length f)) v q (rw same h) less refl e
 
   value-by : (r : Read ℕ) (v : Option Span) (q : ℕ) → readNumber 4 f p ≡ r → andThen (andThen r (λ n a. got (signedOf 4 n) a)) (λ z a. valueAt z f p a) ≡ got v q → AtomWas rules value f p v q
-  value-by (bad k x) v q r e = let z : _≡_ {A = ℕ} 0 1 = cc in absurd (omega arith)
+  value-by (bad k x) v q r e = absurd (zero-one cc)
   value-by (got n a) v q r e = value-sign n a (signedOf 4 n) v q (number-was 4 f p n a b r) refl e
 
   value-was : (v : Option Span) (q : ℕ) → readValue f p ≡ got v q → AtomWas rules value f p v q

@@ -16,6 +16,7 @@ use Rattle.protocol.specs.Kinds.{Kind}
 use Rattle.protocol.specs.Reading.{Read, got, bad, andThen, read, readEach}
 use Rattle.protocol.specs.Refusals.{bytesLeft}
 use Rattle.protocol.specs.WellFormed.{Contents, bodyBytes, AllInRange, allAble}
+use Rattle.protocol.proofs.Basics.{zero-one}
 use Rattle.protocol.proofs.Find.{every}
 use Rattle.laws.specs.Faults.{LastField}
 use Rattle.laws.proofs.Atoms.{saneAtom, atom-back, AtomWas, atom-was}
@@ -119,7 +120,7 @@ module _ (rules : Rules) (f : List ℕ) (b : Bytes f) where
 
   closed-by : {X : Type 0} (k : Kind) (make : Each Slot (k .body) → X) (p a : ℕ) (v : Each Slot (k .body)) (x : X) (q : ℕ) → AllWere bytes slot (read rules) InRange (able rules) (k .body) f p v a → (t : Bool) → ltb a (length f) ≡ t → cond t (bad bytesLeft a) (got (make v) a) ≡ got x q → BodyWas k make p x
   unfolding bodyBytes
-  closed-by k make p a v x q w true t e = let z : _≡_ {A = ℕ} 0 1 = cc in absurd (omega arith)
+  closed-by k make p a v x q w true t e = absurd (zero-one cc)
   closed-by k make p a v x q w false t e =
       let ex : make v ≡ x = cc in
       let end : length f ≤ a = ltb-false _ _ t in
@@ -127,7 +128,7 @@ module _ (rules : Rules) (f : List ℕ) (b : Bytes f) where
 
   body-by : {X : Type 0} (k : Kind) (make : Each Slot (k .body) → X) (p : ℕ) → T (every saneField (k .body)) → p ≤ length f → (x : X) (q : ℕ) (r : Read (Each Slot (k .body))) → readEach (read rules) (k .body) f p ≡ r → andThen r (λ v a. closed f a (make v)) ≡ got x q → BodyWas k make p x
   unfolding closed
-  body-by k make p t l x q (bad n c) r e = let z : _≡_ {A = ℕ} 0 1 = cc in absurd (omega arith)
+  body-by k make p t l x q (bad n c) r e = absurd (zero-one cc)
   body-by k make p t l x q (got v a) r e = closed-by k make p a v x q (each-was bytes slot (read rules) InRange (able rules) f (k .body) p a v l (fields-were (k .body) t) r) (ltb a (length f)) refl e
 
   pub body-was : {X : Type 0} (k : Kind) (make : Each Slot (k .body) → X) (p : ℕ) → T (every saneField (k .body)) → p ≤ length f → (x : X) (q : ℕ) → readBody rules k make f p ≡ got x q → BodyWas k make p x

@@ -7,6 +7,7 @@ use native.Mathlib.Omega.{arith}
 use lib.ListN.{length, drop, length-append}
 use Rattle.protocol.specs.Each.{Each, bytesOfEach, slotsOfEach, ableEach, HoldsEach}
 use Rattle.protocol.specs.Reading.{Read, got, bad, andThen, readEach}
+use Rattle.protocol.proofs.Basics.{zero-one}
 
 module _ {X : Type 0} {C S : X → Type 0} (bytes : (x : X) → C x → List ℕ) (slot : (x : X) → ℕ → C x → S x) (read : (x : X) → List ℕ → ℕ → Read (S x)) where
   -- the bytes of c, between any bytes and post, are read as c
@@ -58,7 +59,7 @@ module _ {X : Type 0} {C S : X → Type 0} (bytes : (x : X) → C x → List ℕ
 
       rest-by : (x : X) (xs : List X) (p a q : ℕ) (u : S x) (v : Each S (x ∷ xs)) (r : Read (Each S xs)) → readEach read xs f a ≡ r → Was x f p u a → ((w : Each S xs) → readEach read xs f a ≡ got w q → AllWere xs f a w q) → andThen r (λ ss e. got (record { 0 = u; 1 = ss }) e) ≡ got v q → AllWere (x ∷ xs) f p v q
       unfolding bytesOfEach slotsOfEach ableEach HoldsEach
-      rest-by x xs p a q u v (bad k b) r h ih e = let z : _≡_ {A = ℕ} 0 1 = cc in absurd (omega arith)
+      rest-by x xs p a q u v (bad k b) r h ih e = absurd (zero-one cc)
       rest-by x xs p a q u v (got w b) r h ih e =
           let eb : b ≡ q = cc in
           let ev : _≡_ {A = Each S (x ∷ xs)} (record { 0 = u; 1 = w }) v = cc in
@@ -75,7 +76,7 @@ module _ {X : Type 0} {C S : X → Type 0} (bytes : (x : X) → C x → List ℕ
           }
 
       first-by : (x : X) (xs : List X) (p q : ℕ) (v : Each S (x ∷ xs)) (r : Read (S x)) → read x f p ≡ r → ((a : ℕ) (u : S x) → read x f p ≡ got u a → Was x f p u a) → ((a : ℕ) (w : Each S xs) → a ≤ length f → readEach read xs f a ≡ got w q → AllWere xs f a w q) → andThen r (λ s a. andThen (readEach read xs f a) (λ ss e. got (record { 0 = s; 1 = ss }) e)) ≡ got v q → AllWere (x ∷ xs) f p v q
-      first-by x xs p q v (bad k b) r h ih e = let z : _≡_ {A = ℕ} 0 1 = cc in absurd (omega arith)
+      first-by x xs p q v (bad k b) r h ih e = absurd (zero-one cc)
       first-by x xs p q v (got u a) r h ih e =
           let w = h a u r in
           rest-by x xs p a q u v (readEach read xs f a) refl w (λ y t. ih a y (w .within) t) e

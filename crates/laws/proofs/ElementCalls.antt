@@ -6,7 +6,6 @@ use mathlib.Core.List.{List, [], _∷_, _++_}
 use mathlib.Core.Logic.{inl, inr}
 use mathlib.Core.Option.{Option, some, none}
 use mathlib.Core.Path.{_≡_, refl, ap, sym, _∙_}
-use native.Mathlib.Omega.{arith}
 use lib.Dec.{ltb}
 use lib.ListN.{length, take}
 use lib.Seq.{take-append-le}
@@ -25,6 +24,7 @@ use Rattle.protocol.specs.Kinds.{Kind, nullable, valueElement}
 use Rattle.protocol.specs.Reading.{Read, got, bad, andThen, read, readEach}
 use Rattle.protocol.specs.Refusals.{bytesLeft, noSuchElement}
 use Rattle.protocol.specs.WellFormed.{bodyStart}
+use Rattle.protocol.proofs.Basics.{zero-one}
 use Rattle.protocol.proofs.Framed.{framed-is, framed-ends, Framed}
 use Rattle.laws.specs.ElementStatements.{RefusedFirst, ElementsNeedMore, ElementsMoreBytes, StandIns, ownOr, EmptyStarts}
 use Rattle.laws.specs.Items.{Found, AtomsPlaced, IsItem, Answers}
@@ -41,7 +41,7 @@ use Rattle.laws.proofs.Table.{mode-found, kind-found}
 
 closed-same : {X Y : Type 0} (f : List ℕ) (q : ℕ) (x : X) (y : Y) (number place : ℕ) (t : Bool) → cond t (bad bytesLeft q) (got x q) ≡ bad number place → cond t (bad bytesLeft q) (got y q) ≡ bad number place
 closed-same f q x y number place true e = handed e
-closed-same f q x y number place false e = let z : _≡_ {A = ℕ} 0 1 = cc in absurd (omega arith)
+closed-same f q x y number place false e = absurd (zero-one cc)
 
 body-same : {X Y Z : Type 0} (f : List ℕ) (make : Z → X) (other : Z → Y) (number place : ℕ) (r : Read Z) → andThen r (λ v q. closed f q (make v)) ≡ bad number place → andThen r (λ v q. closed f q (other v)) ≡ bad number place
 unfolding closed
@@ -75,7 +75,7 @@ module _ (rules : Rules) (s : List ℕ) (l n : ℕ) where
   -- decode's refusal of a whole frame is the call's
   refused-body : (k : Kind) (start end number place : ℕ) (x : Read Message) → readBody rules k (k .message) (take end s) start ≡ x → decodedBy x end ≡ D.Refused number place → elementIn rules s l n (framed k start end) ≡ E.Refused number place
   unfolding elementIn elementBy decodedBy
-  refused-body k start end number place (got m q) x e = let z : _≡_ {A = ℕ} 0 1 = cc in absurd (omega arith)
+  refused-body k start end number place (got m q) x e = absurd (zero-one cc)
   refused-body k start end number place (bad c y) x e =
       let en : c ≡ number = cc in
       let ep : y ≡ place = cc in
@@ -84,7 +84,7 @@ module _ (rules : Rules) (s : List ℕ) (l n : ℕ) where
 
   refused-by : (h : Header) (number place : ℕ) → decodeBy rules s h ≡ D.Refused number place → elementIn rules s l n h ≡ E.Refused number place
   unfolding elementIn decodeBy
-  refused-by more number place e = let z : _≡_ {A = ℕ} 0 1 = cc in absurd (omega arith)
+  refused-by more number place e = absurd (zero-one cc)
   refused-by (refuse c y) number place e =
       let en : c ≡ number = cc in
       let ep : y ≡ place = cc in
@@ -118,7 +118,7 @@ module _ (rules : Rules) (s : List ℕ) (l n : ℕ) where
 
   answered : (h : Header) → ofElement (elementIn rules s l n h) .needMore ≡ false → h ≡ more → ⊥
   unfolding elementIn ofElement
-  answered h e q = let w = rw q at e in let z : _≡_ {A = ℕ} 0 1 = cc in omega arith
+  answered h e q = let w = rw q at e in zero-one cc
 
   longer : (t : List ℕ) (h : Header) → headerOf rules s ≡ h → elementIn rules (s ++ t) l n h ≡ elementIn rules s l n h
   unfolding elementIn

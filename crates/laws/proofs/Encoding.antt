@@ -21,6 +21,7 @@ use Rattle.protocol.specs.Kinds.{Envelope, typed, untyped, bare, Kind, Mode, mo
 use Rattle.protocol.specs.Refusals.{lengthAboveLimit, outputTooShort, notRepresentable}
 use Rattle.protocol.specs.Rules.{rulesOf}
 use Rattle.protocol.specs.WellFormed.{Contents, bodyBytes, header, lengthOf, frame, allAble, WellFormed}
+use Rattle.protocol.proofs.Basics.{zero-one}
 use Rattle.laws.specs.EncodeStatements.{theEncoder, Contracts, Representable, WithinLimit, HasRoom, EncodesExactly, Exactly, KeepsTheRest, Unchanged, Decodes, RoundTrip}
 use Rattle.laws.specs.Statements.{theDecoder, theElementCall}
 use Rattle.laws.proofs.Answered.{done as is-done, encoded-refused, encoded-unsuccessful}
@@ -60,7 +61,7 @@ other : (a b : ℕ) → (a ≡ b → ⊥) → (p q : ℕ) → N.Refused a p ≡ 
 other a b h p q e = h cc
 
 undone : (a p n : ℕ) → N.Refused a p ≡ N.Done n → ⊥
-undone a p n e = let z : _≡_ {A = ℕ} 0 1 = cc in omega arith
+undone a p n e = zero-one cc
 
 done-not : (a p n : ℕ) → N.Done n ≡ N.Refused a p → ⊥
 done-not a p n e = undone a p n (sym e)
@@ -131,7 +132,7 @@ module _ (m : Mode) (k : Kind) where
   given-is P c = (λ h. let q : c ≡ h .0 = cc in rw q (h .2), λ p. (c, refl, p))
 
   given-none : (P : Contents k → Type 0) → ((x : Contents k) × (_≡_ {A = Option (Contents k)} none (some x)) × P x) → ⊥
-  given-none P h = let e = h .1 in let z : _≡_ {A = ℕ} 0 1 = cc in omega arith
+  given-none P h = let e = h .1 in zero-one cc
 
   abbrev size : Contents k → ℕ
   size c = length (frame (m .envelope) k c)
@@ -176,7 +177,7 @@ module _ (m : Mode) (k : Kind) where
         four = through says-refused (v .four);
         nine = through says-refused (v .nine);
         done = λ n. through says-done (no (λ e. given-none (λ x. canBe x ≡ true) (v .done n .0 e .0 .0)) (λ h. given-none (λ x. canBe x ≡ true) (h .0 .0)));
-        writes = λ n c e _. let z : _≡_ {A = ℕ} 0 1 = cc in absurd (omega arith);
+        writes = λ n c e _. absurd (zero-one cc);
       }
   exactly-by (some c) out =
       let v = verdict c out in

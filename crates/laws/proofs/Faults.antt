@@ -19,6 +19,7 @@ use Rattle.protocol.specs.Each.{Each}
 use Rattle.protocol.specs.Fields.{Atom, unsigned, signed, oneOf, text, value, rest, AtomSlot, atomBytes, Item, itemBytes, itemLeast, itemsBytes, Count, countOf, Field, one, counted, ended}
 use Rattle.protocol.specs.Reading.{Read, got, bad, andThen, readNumber, oneMore, zeroIn, textAt, readText, valueAt, readValue, readAtom, readEach, readItem, passItems, countAt, readCount, readCounted, endedFrom, readEnded, read}
 use Rattle.protocol.specs.Refusals.{badCount, cut, notAllowed}
+use Rattle.protocol.proofs.Basics.{zero-one}
 use Rattle.protocol.proofs.Counts.{Counted, counted-is}
 use Rattle.protocol.proofs.Find.{every}
 use Rattle.protocol.proofs.Numbers.{whole}
@@ -32,12 +33,12 @@ use Rattle.laws.proofs.Table.{and-left, and-right}
 -- where no zero byte is found there is none
 none-by : (b : ℕ) (g : List ℕ) (t : Bool) → eqb b 0 ≡ t → (zeroIn g ≡ none → noZero g ≡ true) → cond t (some 0) (oneMore (zeroIn g)) ≡ none → not t && noZero g ≡ true
 unfolding oneMore
-none-by b g true t ih e = let z : _≡_ {A = ℕ} 0 1 = cc in absurd (omega arith)
+none-by b g true t ih e = absurd (zero-one cc)
 none-by b g false t ih e = ih (none-of (zeroIn g) e)
   where
     none-of : (z : Option ℕ) → oneMore z ≡ none → z ≡ none
     none-of none e = refl
-    none-of (some n) e = let z : _≡_ {A = ℕ} 0 1 = cc in absurd (omega arith)
+    none-of (some n) e = absurd (zero-one cc)
 
 no-zero : (g : List ℕ) → zeroIn g ≡ none → noZero g ≡ true
 unfolding zeroIn noZero
@@ -60,7 +61,7 @@ module _ (rules : Rules) (f : List ℕ) (b : Bytes f) where
 
   module _ (p : ℕ) (l : p ≤ length f) where
     cut-by : (w : ℕ) (t : Bool) → leb (p + w) (length f) ≡ t → (number place : ℕ) → cond t (got (numberAt w f p) (p + w)) (bad cut p) ≡ bad number place → Short w (drop p f) number × (place ≡ p)
-    cut-by w true t number place e = let z : _≡_ {A = ℕ} 0 1 = cc in absurd (omega arith)
+    cut-by w true t number place e = absurd (zero-one cc)
     cut-by w false t number place e =
         let en : cut ≡ number = cc in
         let ep : p ≡ place = cc in
@@ -77,12 +78,12 @@ module _ (rules : Rules) (f : List ℕ) (b : Bytes f) where
     there w n q r = let h = whole w f p n q r in (simp length-drop (omega (arith, h .next, h .fits)), h .is)
 
     signed-fault : (w number place : ℕ) (r : Read ℕ) → readNumber w f p ≡ r → andThen r (λ n q. got (signedOf w n) q) ≡ bad number place → Short w (drop p f) number × (place ≡ p)
-    signed-fault w number place (got n q) r e = let z : _≡_ {A = ℕ} 0 1 = cc in absurd (omega arith)
+    signed-fault w number place (got n q) r e = absurd (zero-one cc)
     signed-fault w number place (bad k x) r e = number-fault w number place (r ∙ handed e)
 
     -- one of some bytes
     one-of-test : (bs : List ℕ) (n q : ℕ) (t : Bool) → isOneOf n bs ≡ t → readNumber 1 f p ≡ got n q → (number place : ℕ) → cond t (got n q) (bad notAllowed p) ≡ bad number place → NotOneOf bs (drop p f) number × (place ≡ p)
-    one-of-test bs n q true t r number place e = let z : _≡_ {A = ℕ} 0 1 = cc in absurd (omega arith)
+    one-of-test bs n q true t r number place e = absurd (zero-one cc)
     one-of-test bs n q false t r number place e =
         let en : notAllowed ≡ number = cc in
         let ep : p ≡ place = cc in
@@ -100,14 +101,14 @@ module _ (rules : Rules) (f : List ℕ) (b : Bytes f) where
         let en : cut ≡ number = cc in
         let ep : p ≡ place = cc in
         ((sym en, no-zero (drop p f) z), sym ep)
-    text-fault (some n) z number place e = let z : _≡_ {A = ℕ} 0 1 = cc in absurd (omega arith)
+    text-fault (some n) z number place e = absurd (zero-one cc)
 
     -- a value
     abbrev ValueFault : ℕ → Type 0
     ValueFault number = Short 4 (drop p f) number ⊎ (BelowNull (drop p f) number ⊎ LongValue (drop p f) number)
 
     long-fault : (n m q : ℕ) → readNumber 4 f p ≡ got m q → signedOf 4 m ≡ pos n → (t : Bool) → leb (q + n) (length f) ≡ t → (number place : ℕ) → cond {A = Read (Option Span)} t (got (some (record { start = q; len = n })) (q + n)) (bad cut p) ≡ bad number place → LongValue (drop p f) number × (place ≡ p)
-    long-fault n m q r s true t number place e = let z : _≡_ {A = ℕ} 0 1 = cc in absurd (omega arith)
+    long-fault n m q r s true t number place e = absurd (zero-one cc)
     long-fault n m q r s false t number place e =
         let en : cut ≡ number = cc in
         let ep : p ≡ place = cc in
@@ -119,7 +120,7 @@ module _ (rules : Rules) (f : List ℕ) (b : Bytes f) where
     value-sign : (m q : ℕ) → readNumber 4 f p ≡ got m q → (z : ℤ) → signedOf 4 m ≡ z → (number place : ℕ) → valueAt z f p q ≡ bad number place → ValueFault number × (place ≡ p)
     unfolding valueAt
     value-sign m q r (pos n) s number place e = let h = long-fault n m q r s (leb (q + n) (length f)) refl number place e in (inr (inr (h .0)), h .1)
-    value-sign m q r (negsuc zero) s number place e = let z : _≡_ {A = ℕ} 0 1 = cc in absurd (omega arith)
+    value-sign m q r (negsuc zero) s number place e = absurd (zero-one cc)
     value-sign m q r (negsuc (suc n)) s number place e =
         let en : notAllowed ≡ number = cc in
         let ep : p ≡ place = cc in
@@ -137,7 +138,7 @@ module _ (rules : Rules) (f : List ℕ) (b : Bytes f) where
     atom-fault (oneOf bs) number place e = one-of-fault bs (readNumber 1 f p) refl number place e
     atom-fault text number place e = text-fault (zeroIn (drop p f)) refl number place e
     atom-fault value number place e = value-fault (readNumber 4 f p) refl number place e
-    atom-fault rest number place e = let z : _≡_ {A = ℕ} 0 1 = cc in absurd (omega arith)
+    atom-fault rest number place e = absurd (zero-one cc)
 
   -- ---- items
 
@@ -153,7 +154,7 @@ module _ (rules : Rules) (f : List ℕ) (b : Bytes f) where
       (n + h .0, later before (h .1), omega (arith, w .next, h .2))
 
   rest-fault : (a : Atom) → T (inItem a) → (xs : List Atom) (p q : ℕ) (v : AtomSlot a) (number place : ℕ) → AtomWas rules a f p v q → (r : Read (Each AtomSlot xs)) → readEach (readAtom rules) xs f q ≡ r → (readEach (readAtom rules) xs f q ≡ bad number place → AtomsRefused xs q number place) → andThen {Y = Each AtomSlot (a ∷ xs)} r (λ ss e. got (record { 0 = v; 1 = ss }) e) ≡ bad number place → AtomsRefused (a ∷ xs) p number place
-  rest-fault a t xs p q v number place w (got ss x) r ih e = let z : _≡_ {A = ℕ} 0 1 = cc in absurd (omega arith)
+  rest-fault a t xs p q v number place w (got ss x) r ih e = absurd (zero-one cc)
   rest-fault a t xs p q v number place w (bad k x) r ih e = later-by a t xs p q v number place w (ih (r ∙ handed e))
 
   first-fault : (a : Atom) (xs : List Atom) (p number place : ℕ) → T (inItem a) → p ≤ length f → (r : Read (AtomSlot a)) → readAtom rules a f p ≡ r → ((q : ℕ) → q ≤ length f → readEach (readAtom rules) xs f q ≡ bad number place → AtomsRefused xs q number place) → andThen {Y = Each AtomSlot (a ∷ xs)} r (λ v q. andThen (readEach (readAtom rules) xs f q) (λ ss e. got (record { 0 = v; 1 = ss }) e)) ≡ bad number place → AtomsRefused (a ∷ xs) p number place
@@ -164,7 +165,7 @@ module _ (rules : Rules) (f : List ℕ) (b : Bytes f) where
       rest-fault a t xs p q v number place w (readEach (readAtom rules) xs f q) refl (ih q (w .within)) e
 
   atoms-fault : (xs : List Atom) → T (every inItem xs) → (p number place : ℕ) → p ≤ length f → readEach (readAtom rules) xs f p ≡ bad number place → AtomsRefused xs p number place
-  atoms-fault [] t p number place l e = let z : _≡_ {A = ℕ} 0 1 = cc in absurd (omega arith)
+  atoms-fault [] t p number place l e = absurd (zero-one cc)
   atoms-fault (a ∷ xs) t p number place l e = first-fault a xs p number place (and-left (inItem a) (every inItem xs) t) l (readAtom rules a f p) refl (λ q m r. atoms-fault xs (and-right (inItem a) (every inItem xs) t) q number place m r) e
 
   module _ (i : Item) (sane : T (saneItem i)) where
@@ -192,7 +193,7 @@ module _ (rules : Rules) (f : List ℕ) (b : Bytes f) where
 
     pass-fault : (n p number place : ℕ) → p ≤ length f → passItems rules i n f p ≡ bad number place → PassRefused n p number place
     unfolding passItems
-    pass-fault zero p number place l e = let z : _≡_ {A = ℕ} 0 1 = cc in absurd (omega arith)
+    pass-fault zero p number place l e = absurd (zero-one cc)
     pass-fault (suc n) p number place l e = pass-by n p number place l (readItem rules i f p) refl (λ q m r. pass-fault n q number place m r) e
 
     items-right : (n p q : ℕ) → (w : ItemsWere rules i f n p q) → ItemsBefore rules i (drop p f) (drop q f) n (length (itemsBytes i (w .contents)))
@@ -202,7 +203,7 @@ module _ (rules : Rules) (f : List ℕ) (b : Bytes f) where
 
     module _ (k : Count) (p : ℕ) (l : p ≤ length f) where
       room-fault : (m q n : ℕ) → readNumber 2 f p ≡ got m q → countOf k m ≡ pos n → (t : Bool) → leb (n * itemLeast i) (length f - q) ≡ t → (number place : ℕ) → cond {A = Read ListSlot} t (got (record { start = q; count = n }) q) (bad badCount p) ≡ bad number place → CountFault k i (drop p f) number × (place ≡ p)
-      room-fault m q n r s true t number place e = let z : _≡_ {A = ℕ} 0 1 = cc in absurd (omega arith)
+      room-fault m q n r s true t number place e = absurd (zero-one cc)
       room-fault m q n r s false t number place e =
           let en : badCount ≡ number = cc in
           let ep : p ≡ place = cc in
@@ -255,7 +256,7 @@ module _ (rules : Rules) (f : List ℕ) (b : Bytes f) where
 
       counted-pass : (c : ListSlot) (q : ℕ) → Counted k (itemLeast i) f p c q → (number place : ℕ) (r : Read (Unit {0})) → passItems rules i (c .count) f q ≡ r → andThen r (λ _ e. got c e) ≡ bad number place → CountedRefused number place
       unfolding CountedRefused FieldFault
-      counted-pass c q w number place (got u x) r e = let z : _≡_ {A = ℕ} 0 1 = cc in absurd (omega arith)
+      counted-pass c q w number place (got u x) r e = absurd (zero-one cc)
       counted-pass c q w number place (bad x y) r e =
           let h = listed-fault c q w number place (pass-fault (c .count) q number place (w .fits) (r ∙ handed e)) in
           (h .0, inr (h .1), h .2)
@@ -303,7 +304,7 @@ module _ (rules : Rules) (f : List ℕ) (b : Bytes f) where
         record { before = suc (h .before); stop = h .stop; were = ended-item rules i sane f b w c z (h .were); fault = h .fault }
 
     ended-test-fault : (turns n p number place x y : ℕ) → p ≤ length f → length f ≤ suc turns + p → readNumber 1 f p ≡ got x y → ((q : ℕ) → q ≤ length f → length f ≤ turns + q → endedFrom rules i turns f q (suc n) ≡ bad number place → EndedRefused q number place) → (t : Bool) → eqb x 0 ≡ t → cond t (got n y) (andThen (readItem rules i f p) (λ s q. endedFrom rules i turns f q (suc n))) ≡ bad number place → EndedRefused p number place
-    ended-test-fault turns n p number place x y l m c ih true t e = let z : _≡_ {A = ℕ} 0 1 = cc in absurd (omega arith)
+    ended-test-fault turns n p number place x y l m c ih true t e = absurd (zero-one cc)
     ended-test-fault turns n p number place x y l m c ih false t e = ended-item-fault turns n p number place x y l m c t (readItem rules i f p) refl ih e
 
     ended-number-fault : (turns n p number place : ℕ) → p ≤ length f → length f ≤ suc turns + p → ((q : ℕ) → q ≤ length f → length f ≤ turns + q → endedFrom rules i turns f q (suc n) ≡ bad number place → EndedRefused q number place) → (r : Read ℕ) → readNumber 1 f p ≡ r → andThen r (λ x y. cond (eqb x 0) (got n y) (andThen (readItem rules i f p) (λ s q. endedFrom rules i turns f q (suc n)))) ≡ bad number place → EndedRefused p number place
@@ -335,7 +336,7 @@ module _ (rules : Rules) (f : List ℕ) (b : Bytes f) where
         (first + inside, record { before = before; first = first; inside = inside; after = drop stop f; items = items-right before p stop (w .items); none = w .none; fault = inr (h .0, h .1, h .2 .1); place = refl }, omega (arith, w .items .next, h .2 .2))
 
     ended-by : (p number place : ℕ) → p ≤ length f → (r : Read ℕ) → endedFrom rules i (length f) f p 0 ≡ r → andThen {Y = ListSlot} r (λ n e. got (record { start = p; count = n }) e) ≡ bad number place → EndedFieldRefused p number place
-    ended-by p number place l (got n q) r e = let z : _≡_ {A = ℕ} 0 1 = cc in absurd (omega arith)
+    ended-by p number place l (got n q) r e = absurd (zero-one cc)
     ended-by p number place l (bad k x) r e =
         let h = ended-from-fault (length f) 0 p number place l (omega arith) (r ∙ handed e) in
         stop-fault p number place (h .before) (h .stop) (h .were) (h .fault)

@@ -12,6 +12,7 @@ use Rattle.protocol.specs.Bytes.{Bytes, be}
 use Rattle.protocol.specs.Each.{Each, bytesOfEach, ableEach, HoldsEach, leastOfEach}
 use Rattle.protocol.specs.Fields.{Atom, unsigned, signed, oneOf, text, value, rest, AtomContent, AtomSlot, ValueInRange, AtomInRange, atomAble, valueBytes, atomBytes, atomSlot, atomLeast, Item, ItemContent, ItemInRange, itemAble, itemBytes, itemSlots, itemLeast, itemsBytes, ItemsInRange, itemsAble}
 use Rattle.protocol.specs.Reading.{Read, got, bad, andThen, readAtom, readItem, passItems}
+use Rattle.protocol.proofs.Basics.{zero-one}
 use Rattle.protocol.proofs.Find.{every}
 use Rattle.laws.specs.Faults.{LastAtom}
 use Rattle.laws.proofs.Atoms.{saneAtom, atom-back, atom-was}
@@ -187,7 +188,7 @@ module _ (rules : Rules) (i : Item) (sane : T (saneItem i)) (f : List ℕ) (b : 
       }
 
   pass-by : (n p q : ℕ) → p ≤ length f → (r : Read (Each AtomSlot (i .atoms))) → readItem rules i f p ≡ r → ((a : ℕ) → a ≤ length f → passItems rules i n f a ≡ got tt q → ItemsWere rules i f n a q) → andThen r (λ s a. passItems rules i n f a) ≡ got tt q → ItemsWere rules i f (suc n) p q
-  pass-by n p q l (bad k x) r ih e = let z : _≡_ {A = ℕ} 0 1 = cc in absurd (omega arith)
+  pass-by n p q l (bad k x) r ih e = absurd (zero-one cc)
   pass-by n p q l (got v a) r ih e = let h = item-was p a v l r in item-before h (ih a (h .within) e)
 
   pub pass-was : (n p q : ℕ) → p ≤ length f → passItems rules i n f p ≡ got tt q → ItemsWere rules i f n p q

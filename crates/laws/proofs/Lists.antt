@@ -16,6 +16,7 @@ use Rattle.protocol.specs.Bytes.{Bytes, be, signedOf, bitsOf}
 use Rattle.protocol.specs.Each.{Each}
 use Rattle.protocol.specs.Fields.{AtomSlot, Item, ItemContent, itemBytes, itemLeast, itemsBytes, ItemsInRange, itemsAble, zeroFirst, noneEnds, Count, signedCount, countOf, most, Field, counted, ended, Slot, InRange, able, bytes, slot}
 use Rattle.protocol.specs.Reading.{Read, got, bad, andThen, readNumber, readItem, passItems, countAt, readCount, readCounted, endedFrom, readEnded, read}
+use Rattle.protocol.proofs.Basics.{zero-one}
 use Rattle.protocol.proofs.Counts.{Counted, counted-is}
 use Rattle.protocol.proofs.Find.{every}
 use Rattle.protocol.proofs.Numbers.{lower}
@@ -97,7 +98,7 @@ FieldWas rules x f p v q = Was bytes slot (read rules) InRange (able rules) x f 
 module _ (rules : Rules) (i : Item) (sane : T (saneItem i)) (f : List ℕ) (b : Bytes f) (p : ℕ) where
   counted-pass : (k : Count) (l : ListSlot) (a : ℕ) → Counted k (itemLeast i) f p l a → (r : Read (Unit {0})) → passItems rules i (l .count) f a ≡ r → (v : ListSlot) (q : ℕ) → andThen r (λ _ e. got l e) ≡ got v q → FieldWas rules (counted k i) f p v q
   unfolding bytes slot InRange able
-  counted-pass k l a c (bad x y) r v q e = let z : _≡_ {A = ℕ} 0 1 = cc in absurd (omega arith)
+  counted-pass k l a c (bad x y) r v q e = absurd (zero-one cc)
   counted-pass k l a c (got tt x) r v q e =
       let ev : l ≡ v = cc in
       let ex : x ≡ q = cc in
@@ -119,7 +120,7 @@ module _ (rules : Rules) (i : Item) (sane : T (saneItem i)) (f : List ℕ) (b : 
       }
 
   counted-by : (k : Count) (r : Read ListSlot) → readCount k (itemLeast i) f p ≡ r → (v : ListSlot) (q : ℕ) → andThen r (λ l a. andThen (passItems rules i (l .count) f a) (λ _ e. got l e)) ≡ got v q → FieldWas rules (counted k i) f p v q
-  counted-by k (bad x y) r v q e = let z : _≡_ {A = ℕ} 0 1 = cc in absurd (omega arith)
+  counted-by k (bad x y) r v q e = absurd (zero-one cc)
   counted-by k (got l a) r v q e = counted-pass k l a (counted-is k (itemLeast i) f p a l r) (passItems rules i (l .count) f a) refl v q e
 
   pub counted-was : (k : Count) (v : ListSlot) (q : ℕ) → readCounted rules k i f p ≡ got v q → FieldWas rules (counted k i) f p v q
@@ -171,7 +172,7 @@ module _ (rules : Rules) (i : Item) (sane : T (saneItem i)) (f : List ℕ) (b : 
       record { many = 0; end = p; were = ended-none p l; total = omega arith; zero = h .split ∙ rw (eqb-true x 0 z, eq) (ap (λ (bs : List ℕ). bs ++ drop q f) (sym (byte-be 0 (omega arith)))); next = sym eq ∙ h .next; within = rw (← eq) (h .within) }
 
   ends-item : (turns n p m q x y : ℕ) → readNumber 1 f p ≡ got x y → eqb x 0 ≡ false → p ≤ length f → (r : Read (Each AtomSlot (i .atoms))) → readItem rules i f p ≡ r → ((a : ℕ) → a ≤ length f → endedFrom rules i turns f a (suc n) ≡ got m q → EndsAt (suc n) a m q) → andThen r (λ s a. endedFrom rules i turns f a (suc n)) ≡ got m q → EndsAt n p m q
-  ends-item turns n p m q x y r z l (bad k c) s ih e = let z : _≡_ {A = ℕ} 0 1 = cc in absurd (omega arith)
+  ends-item turns n p m q x y r z l (bad k c) s ih e = absurd (zero-one cc)
   ends-item turns n p m q x y r z l (got v a) s ih e =
       let h = item-was rules i sane f b p a v l s in
       let t = ih a (h .within) e in
@@ -182,17 +183,17 @@ module _ (rules : Rules) (i : Item) (sane : T (saneItem i)) (f : List ℕ) (b : 
   ends-test turns n p m q x y r l ih false t e = ends-item turns n p m q x y r t l (readItem rules i f p) refl ih e
 
   ends-by : (turns n p m q : ℕ) → p ≤ length f → ((a : ℕ) → a ≤ length f → endedFrom rules i turns f a (suc n) ≡ got m q → EndsAt (suc n) a m q) → (r : Read ℕ) → readNumber 1 f p ≡ r → andThen r (λ x y. cond (eqb x 0) (got n y) (andThen (readItem rules i f p) (λ s a. endedFrom rules i turns f a (suc n)))) ≡ got m q → EndsAt n p m q
-  ends-by turns n p m q l ih (bad k c) r e = let z : _≡_ {A = ℕ} 0 1 = cc in absurd (omega arith)
+  ends-by turns n p m q l ih (bad k c) r e = absurd (zero-one cc)
   ends-by turns n p m q l ih (got x y) r e = ends-test turns n p m q x y r l ih (eqb x 0) refl e
 
   ends-were : (turns n p m q : ℕ) → p ≤ length f → endedFrom rules i turns f p n ≡ got m q → EndsAt n p m q
   unfolding endedFrom
-  ends-were zero n p m q l e = let z : _≡_ {A = ℕ} 0 1 = cc in absurd (omega arith)
+  ends-were zero n p m q l e = absurd (zero-one cc)
   ends-were (suc turns) n p m q l e = ends-by turns n p m q l (λ a k r. ends-were turns (suc n) a m q k r) (readNumber 1 f p) refl e
 
   ended-by : (p : ℕ) → p ≤ length f → (r : Read ℕ) → endedFrom rules i (length f) f p 0 ≡ r → (v : ListSlot) (q : ℕ) → andThen r (λ n e. got (record { start = p; count = n }) e) ≡ got v q → FieldWas rules (ended i) f p v q
   unfolding bytes slot InRange able
-  ended-by p l (bad k c) r v q e = let z : _≡_ {A = ℕ} 0 1 = cc in absurd (omega arith)
+  ended-by p l (bad k c) r v q e = absurd (zero-one cc)
   ended-by p l (got m x) r v q e =
       let ev : _≡_ {A = ListSlot} (record { start = p; count = m }) v = cc in
       let ex : x ≡ q = cc in

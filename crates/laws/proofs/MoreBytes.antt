@@ -3,11 +3,11 @@ use Prim.Native.Nat.{ℕ}
 use mathlib.Core.Bool.{false}
 use mathlib.Core.List.{List, _++_}
 use mathlib.Core.Path.{_≡_, refl, ap}
-use native.Mathlib.Omega.{arith}
 use lib.Seq.{take-append-le}
 use Rattle.protocol.specs.declared.Rules.{Rules}
 use Rattle.protocol.specs.Answers.{ofDecoded}
 use Rattle.protocol.specs.Decode.{Header, more, refuse, framed, headerOf, decodeBy, decodeOf}
+use Rattle.protocol.proofs.Basics.{zero-one}
 use Rattle.protocol.proofs.Framed.{framed-is, framed-ends}
 use Rattle.laws.specs.Statements.{MoreBytes, theDecoder}
 use Rattle.laws.proofs.Headers.{decoding-waits, header-again}
@@ -16,8 +16,7 @@ use Rattle.laws.proofs.Headers.{decoding-waits, header-again}
 settled : (rules : Rules) (s : List ℕ) → ofDecoded (decodeOf rules s) .needMore ≡ false → headerOf rules s ≡ more → ⊥
 settled rules s answers waits =
     let needs = decoding-waits rules s .1 waits in
-    let z : _≡_ {A = ℕ} 0 1 = cc in
-    omega arith
+    zero-one cc
 
 -- what is made of a header is the same with more bytes, since a frame's own bytes are
 longer : (rules : Rules) (s t : List ℕ) (h : Header) → headerOf rules s ≡ h → decodeBy rules (s ++ t) h ≡ decodeBy rules s h

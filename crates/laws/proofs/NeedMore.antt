@@ -14,6 +14,7 @@ use Rattle.protocol.specs.declared.Rules.{Rules}
 use Rattle.protocol.specs.Bytes.{numberAt, signedOf}
 use Rattle.protocol.specs.Decode.{Header, more, refuse, framed, lengthBy, typedBy, untypedBy, bareBy, tagAt, headerBy, headerOf}
 use Rattle.protocol.specs.Kinds.{Envelope, typed, untyped, bare, Kind, Mode, modes, IsIn, modeOf, kindIn}
+use Rattle.protocol.proofs.Basics.{zero-one}
 use Rattle.laws.specs.Statements.{NeedMore, theDecoder}
 use Rattle.laws.specs.Waiting.{LengthWaits, TypedWaits, UntypedWaits, WaitsIn, Waits}
 use Rattle.laws.proofs.Headers.{tagEnd, afterTag, header-is, decoding-waits}
@@ -23,10 +24,10 @@ use Rattle.laws.proofs.Table.{mode-found, kind-found}
 
 -- a refusal does not wait, and a whole frame does not
 not-refused : {number place : ℕ} → refuse number place ≡ more → ⊥
-not-refused e = let z : _≡_ {A = ℕ} 0 1 = cc in omega arith
+not-refused e = zero-one cc
 
 not-framed : {k : Kind} {start end : ℕ} → framed k start end ≡ more → ⊥
-not-framed e = let z : _≡_ {A = ℕ} 0 1 = cc in omega arith
+not-framed e = zero-one cc
 
 -- where a check that refuses a below b comes to wait, a passed it
 passed : (a b number place : ℕ) {x : Header} (t : Bool) → ltb a b ≡ t → cond t (refuse number place) x ≡ more → (b ≤ a) × (x ≡ more)

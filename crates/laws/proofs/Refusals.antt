@@ -24,6 +24,7 @@ use Rattle.protocol.specs.Kinds.{Envelope, typed, untyped, bare, Kind, Mode, mo
 use Rattle.protocol.specs.Reading.{Read, got, bad, andThen, read, readEach}
 use Rattle.protocol.specs.Refusals.{modeUnknown, typeUnknown, lengthTooSmall, lengthAboveLimit, bytesLeft}
 use Rattle.protocol.specs.WellFormed.{lengthOf, bodyStart}
+use Rattle.protocol.proofs.Basics.{zero-one}
 use Rattle.protocol.proofs.Framed.{Framing, Framed, framed-is, framed-ends}
 use Rattle.protocol.proofs.Find.{every}
 use Rattle.laws.specs.Faults.{LastField, FieldBefore, BodyFault, left, here, later, LengthFault, Unknown, HeaderFault, FrameEnds}
@@ -50,7 +51,7 @@ module _ (rules : Rules) (f : List ℕ) (b : Bytes f) where
 
   left-fault : {X : Type 0} (x : X) (p number place : ℕ) → p ≤ length f → (t : Bool) → ltb p (length f) ≡ t → cond t (bad bytesLeft p) (got x p) ≡ bad number place → BodyRefused [] p number place
   unfolding BodyRefused
-  left-fault x p number place l false t e = let z : _≡_ {A = ℕ} 0 1 = cc in absurd (omega arith)
+  left-fault x p number place l false t e = absurd (zero-one cc)
   left-fault x p number place l true t e =
       let en : bytesLeft ≡ number = cc in
       let ep : p ≡ place = cc in
@@ -95,7 +96,7 @@ module _ (rules : Rules) (f : List ℕ) (b : Bytes f) where
 
 -- a test that chose the second of two headers, since the first is no refusal
 past : (a n : ℕ) {x : Header} {number place : ℕ} (t : Bool) → ltb a n ≡ t → cond t more x ≡ refuse number place → (n ≤ a) × (x ≡ refuse number place)
-past a n true t e = let z : _≡_ {A = ℕ} 0 1 = cc in absurd (omega arith)
+past a n true t e = absurd (zero-one cc)
 past a n false t e = (ltb-false a n t, e)
 
 -- a refused length
@@ -107,8 +108,7 @@ module _ (k : Kind) (p start : ℕ) (s : List ℕ) (number place : ℕ) where
       (inr (sym en, (n, w, l, ltb-true _ _ t)), sym ep)
   limit-fault n w l false t e =
       let h = past (length s) (p + n) (ltb (length s) (p + n)) refl e .1 in
-      let z : _≡_ {A = ℕ} 0 1 = cc in
-      absurd (omega arith)
+      absurd (zero-one cc)
 
   small-fault : (n : ℕ) → signedOf 4 (numberAt 4 s p) ≡ pos n → (t : Bool) → ltb n (k .smallest) ≡ t → cond t (refuse lengthTooSmall p) (cond (ltb (k .limit) n) (refuse lengthAboveLimit p) (cond (ltb (length s) (p + n)) more (framed k start (p + n)))) ≡ refuse number place → LengthFault k p s number × (place ≡ p)
   small-fault n w true t e =
@@ -130,8 +130,7 @@ module _ (m : Mode) (known : IsIn m modes) (s : List ℕ) (number place : ℕ) w
   no-kind : (tag : ℕ) → kindIn m tag ≡ none → Unknown (m .kinds) tag
   no-kind tag h k i e =
       let f = kind-found m known tag k .1 (i, e) in
-      let z : _≡_ {A = ℕ} 0 1 = cc in
-      omega arith
+      zero-one cc
 
   header-fault : (e : Envelope) (o : Option Kind) → kindIn m (tagAt e s) ≡ o → tagEnd e ≤ length s → afterTag e o s ≡ refuse number place → HeaderFault e (m .kinds) s number place
   unfolding HeaderFault typedBy untypedBy bareBy
@@ -154,7 +153,7 @@ module _ (m : Mode) (known : IsIn m modes) (s : List ℕ) (number place : ℕ) w
       let en : typeUnknown ≡ number = cc in
       let ep : 0 ≡ place = cc in
       (sym en, sym ep, l, no-kind _ h)
-  header-fault bare (some k) h l e = let z : _≡_ {A = ℕ} 0 1 = cc in absurd (omega arith)
+  header-fault bare (some k) h l e = absurd (zero-one cc)
 
 module _ (rules : Rules) (s : List ℕ) (b : Bytes s) (number place : ℕ) where
   mode-fault : (o : Option Mode) → modeOf rules ≡ o → headerBy o s ≡ refuse number place → FaultOf rules s number place
@@ -166,7 +165,7 @@ module _ (rules : Rules) (s : List ℕ) (b : Bytes s) (number place : ℕ) where
       inl (sym en, sym ep, unknown)
     where
       absent : (m : Mode) → modeOf rules ≡ some m → ⊥
-      absent m f = let z : _≡_ {A = ℕ} 0 1 = cc in omega arith
+      absent m f = zero-one cc
   mode-fault (some m) h e =
       let f = mode-found rules m .0 h in
       let c = past (length s) (tagEnd (m .envelope)) _ refl (rw header-is at e) in
@@ -194,7 +193,7 @@ module _ (rules : Rules) (s : List ℕ) (b : Bytes s) (number place : ℕ) where
 
   body-by : (k : Kind) (start end : ℕ) → Framed rules s k start end → (x : Read Message) → readBody rules k (k .message) (take end s) start ≡ x → decodedBy x end ≡ D.Refused number place → Faulty rules s number place
   unfolding decodedBy
-  body-by k start end h (got m q) x e = let z : _≡_ {A = ℕ} 0 1 = cc in absurd (omega arith)
+  body-by k start end h (got m q) x e = absurd (zero-one cc)
   body-by k start end h (bad c y) x e =
       let en : c ≡ number = cc in
       let ep : y ≡ place = cc in
@@ -202,7 +201,7 @@ module _ (rules : Rules) (s : List ℕ) (b : Bytes s) (number place : ℕ) where
 
   header-by : (h : Header) → headerOf rules s ≡ h → decodeBy rules s h ≡ D.Refused number place → FaultOf rules s number place
   unfolding decodeBy headerOf
-  header-by more h e = let z : _≡_ {A = ℕ} 0 1 = cc in absurd (omega arith)
+  header-by more h e = absurd (zero-one cc)
   header-by (refuse c y) h e =
       let en : c ≡ number = cc in
       let ep : y ≡ place = cc in

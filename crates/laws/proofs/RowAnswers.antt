@@ -19,7 +19,7 @@ use Rattle.protocol.specs.Bytes.{isOneOf}
 use Rattle.protocol.specs.Refusals.{outputTooShort, noSuchElement}
 use Rattle.protocol.specs.Rules.{rulesOf}
 use Rattle.reader.specs.Row.{rowIn, rowFits, rowBy, ofRow}
-use Rattle.reader.proofs.Rows.{row-in, data-row}
+use Rattle.reader.proofs.RowRoom.{row-in, data-row}
 use Rattle.reader.specs.declared.row.Row.the-variants as R
 use Rattle.reader.specs.declared.row.Row.{Row}
 use Rattle.laws.specs.ReaderStatements.{RowAnswers, rowNumbers, RowNumbered}

@@ -30,12 +30,13 @@ use Rattle.protocol.specs.Reading.{Read, got, bad, andThen, readNumber, valueAt
 use Rattle.protocol.specs.Refusals.{bytesLeft, outputTooShort}
 use Rattle.protocol.specs.Rules.{rulesOf}
 use Rattle.protocol.specs.Views.{View, view}
+use Rattle.protocol.proofs.Basics.{zero-one}
 use Rattle.protocol.proofs.Counts.{counted-is}
 use Rattle.protocol.proofs.Find.{told-row}
 use Rattle.protocol.proofs.Framed.{framed-is}
 use Rattle.protocol.proofs.Views.{Viewed, viewed}
 use Rattle.element.proofs.Calls.{answered-as}
-use Rattle.reader.proofs.Rows.{data-row}
+use Rattle.reader.proofs.RowRoom.{data-row}
 use Rattle.reader.specs.declared.row.Row.the-variants as R
 use Rattle.reader.specs.Row.{Place, lengthWord, startOf, lengthOf, entryOf, placesFrom, rowIn, rowFits, rowBy, over, startsOf, lengthsOf, ReadsRow}
 use Rattle.laws.specs.Arguments.{nth}
@@ -47,13 +48,13 @@ use Rattle.laws.proofs.Answered.{row-is}
 
 nth-map : {A B : Type 0} (f : A → B) (xs : List A) (i : ℕ) (x : A) → nth xs i ≡ some x → nth (map f xs) i ≡ some (f x)
 unfolding nth
-nth-map f [] i x e = let z : _≡_ {A = ℕ} 0 1 = cc in absurd (omega arith)
+nth-map f [] i x e = absurd (zero-one cc)
 nth-map f (y ∷ xs) zero x e = let q : y ≡ x = cc in rw q refl
 nth-map f (y ∷ xs) (suc i) x e = nth-map f xs i x e
 
 nth-front : {A : Type 0} (xs ys : List A) (i : ℕ) (x : A) → nth xs i ≡ some x → nth (xs ++ ys) i ≡ some x
 unfolding nth
-nth-front [] ys i x e = let z : _≡_ {A = ℕ} 0 1 = cc in absurd (omega arith)
+nth-front [] ys i x e = absurd (zero-one cc)
 nth-front (y ∷ xs) ys zero x e = e
 nth-front (y ∷ xs) ys (suc i) x e = nth-front xs ys i x e
 
@@ -79,7 +80,7 @@ nth-later xs ys i h =
 
 signed-below : (n m : ℕ) (t : Bool) → ltb n (256 ^ 4 / 2) ≡ t → cond t (pos n) (negsuc (256 ^ 4 - suc n)) ≡ pos m → m < 2147483648
 signed-below n m true h e = let q : n ≡ m = cc in rw (← q) (ltb-true _ _ h)
-signed-below n m false h e = let z : _≡_ {A = ℕ} 0 1 = cc in absurd (omega arith)
+signed-below n m false h e = absurd (zero-one cc)
 
 -- a value's length is below the largest signed word
 value-below : (z : ℤ) (f : List ℕ) (p q : ℕ) (v : Span) (e : ℕ) → ((n : ℕ) → z ≡ pos n → n < 2147483648) → valueAt z f p q ≡ got (some v) e → v .len < 2147483648
@@ -88,9 +89,9 @@ value-below (pos n) f p q v e h g = by (leb (q + n) (length f)) g
   where
     by : (t : Bool) → cond t (got (some (record { start = q; len = n })) (q + n)) (bad 6 p) ≡ got (some v) e → v .len < 2147483648
     by true g = let is : n ≡ v .len = cc in rw (← is) (h n refl)
-    by false g = let z : _≡_ {A = ℕ} 0 1 = cc in absurd (omega arith)
-value-below (negsuc zero) f p q v e h g = let z : _≡_ {A = ℕ} 0 1 = cc in absurd (omega arith)
-value-below (negsuc (suc n)) f p q v e h g = let z : _≡_ {A = ℕ} 0 1 = cc in absurd (omega arith)
+    by false g = absurd (zero-one cc)
+value-below (negsuc zero) f p q v e h g = absurd (zero-one cc)
+value-below (negsuc (suc n)) f p q v e h g = absurd (zero-one cc)
 
 length-below : (f : List ℕ) (p : ℕ) (v : Span) (e : ℕ) → readValue f p ≡ got (some v) e → v .len < 2147483648
 unfolding readValue signedOf
@@ -98,7 +99,7 @@ length-below f p v e g = by (readNumber 4 f p) g
   where
     by : (r : Read ℕ) → andThen (andThen r (λ n q. got (signedOf 4 n) q)) (λ z q. valueAt z f p q) ≡ got (some v) e → v .len < 2147483648
     by (got n q) g = value-below (signedOf 4 n) f p q v e (λ m is. signed-below n m (ltb n (256 ^ 4 / 2)) refl is) g
-    by (bad number place) g = let z : _≡_ {A = ℕ} 0 1 = cc in absurd (omega arith)
+    by (bad number place) g = absurd (zero-one cc)
 
 -- the element of a value is what its entry tells
 told : (v : Option Span) → ((s : Span) → v ≡ some s → s .len < 2147483648) → valueElement v ≡ elementAs (startOf v) (lengthOf v)
@@ -120,7 +121,7 @@ module _ (rules : Rules) (f : List ℕ) where
   passed-by : (n p q : ℕ) → ((next j : ℕ) → passItems rules nullable n f next ≡ got tt q → j < n → Passed n next j) → (i : ℕ) → i < suc n → (r : Read (Option Span)) → readValue f p ≡ r
       → andThen (andThen {Y = Each AtomSlot (nullable .atoms)} r (λ s q. got (s, tt) q)) (λ s q. passItems rules nullable n f q) ≡ got tt q → Passed (suc n) p i
   unfolding passItems placesFrom entryOf nth
-  passed-by n p q rest i h (bad number place) is e = let z : _≡_ {A = ℕ} 0 1 = cc in absurd (omega arith)
+  passed-by n p q rest i h (bad number place) is e = absurd (zero-one cc)
   passed-by n p q rest zero h (got v next) is e = record { value = v; next = next; item = rw is refl; place = rw is refl; below = λ s same. length-below f p s next (is ∙ ap (λ (x : Option Span). got x next) same) }
   passed-by n p q rest (suc j) h (got v next) is e =
       let r = rest next j e (omega arith) in
@@ -135,7 +136,7 @@ module _ (rules : Rules) (f : List ℕ) where
   many-by : (n p q : ℕ) → ((next : ℕ) → passItems rules nullable n f next ≡ got tt q → length (placesFrom n f next) ≡ n) → (r : Read (Option Span)) → readValue f p ≡ r
       → andThen (andThen {Y = Each AtomSlot (nullable .atoms)} r (λ s q. got (s, tt) q)) (λ s q. passItems rules nullable n f q) ≡ got tt q → length (placesFrom (suc n) f p) ≡ suc n
   unfolding placesFrom entryOf
-  many-by n p q rest (bad number place) is e = let z : _≡_ {A = ℕ} 0 1 = cc in absurd (omega arith)
+  many-by n p q rest (bad number place) is e = absurd (zero-one cc)
   many-by n p q rest (got v next) is e = rw is (ap suc (rest next e))
 
   many : (n p q : ℕ) → passItems rules nullable n f p ≡ got tt q → length (placesFrom n f p) ≡ n
@@ -156,11 +157,11 @@ module _ (rules : Rules) (f : List ℕ) where
       let end : e ≡ q = cc in
       let w = counted-is signedCount (itemLeast nullable) f p q′ l (c ∙ ap (λ (x : ListSlot). got x q′) same) in
       rw (w .start, ← same, ← end) is
-  pass-by p q q′ l l′ c (bad number place) is h = let z : _≡_ {A = ℕ} 0 1 = cc in absurd (omega arith)
+  pass-by p q q′ l l′ c (bad number place) is h = absurd (zero-one cc)
 
   count-by : (p q : ℕ) (l : ListSlot) (r : Read ListSlot) → readCount signedCount (itemLeast nullable) f p ≡ r → andThen r (λ l q. andThen (passItems rules nullable (l .count) f q) (λ _ e. got l e)) ≡ got l q → passItems rules nullable (l .count) f (l .start) ≡ got tt q
   count-by p q l (got l′ q′) c h = pass-by p q q′ l l′ c (passItems rules nullable (l′ .count) f q′) refl h
-  count-by p q l (bad number place) c h = let z : _≡_ {A = ℕ} 0 1 = cc in absurd (omega arith)
+  count-by p q l (bad number place) c h = absurd (zero-one cc)
 
   row-by : (p q : ℕ) (s : Each Slot (values ∷ [])) (r : Read ListSlot) → readCounted rules signedCount nullable f p ≡ r → andThen {Y = Each Slot (values ∷ [])} r (λ l e. got (l, tt) e) ≡ got s q → passItems rules nullable (s .0 .count) f (s .0 .start) ≡ got tt q
   unfolding readCounted
@@ -168,7 +169,7 @@ module _ (rules : Rules) (f : List ℕ) where
       let same : l ≡ s .0 = cc in
       let end : e ≡ q = cc in
       rw (← same) (count-by p q l (readCount signedCount (itemLeast nullable) f p) refl (is ∙ ap (got l) end))
-  row-by p q s (bad number place) is h = let z : _≡_ {A = ℕ} 0 1 = cc in absurd (omega arith)
+  row-by p q s (bad number place) is h = absurd (zero-one cc)
 
   -- a kind whose message is a row: it is viewed as a row, so its values were passed
   row-passes : (k : Kind) → Viewed k → (p q : ℕ) (s : Each Slot (k .body)) (r : DataRow) → readEach (read rules) (k .body) f p ≡ got s q → k .message s ≡ M.DataRow r → passItems rules nullable (dataOf r .count) f (dataOf r .start) ≡ got tt q
@@ -187,7 +188,7 @@ module _ (s : List ℕ) (row : DataRow) (n : ℕ) where
   by-end : (k : Kind) (a b : ℕ) → headerOf fromBackend s ≡ framed k a b → (v : Each Slot (k .body)) (q : ℕ) → readEach (read fromBackend) (k .body) (take b s) a ≡ got v q
       → (t : Bool) → decodedBy (cond t (bad bytesLeft q) (got (k .message v) q)) b ≡ D.Record (M.DataRow row) n → Were
   unfolding decodedBy
-  by-end k a b e v q r true d = let z : _≡_ {A = ℕ} 0 1 = cc in absurd (omega arith)
+  by-end k a b e v q r true d = absurd (zero-one cc)
   by-end k a b e v q r false d =
       let is : k .message v ≡ M.DataRow row = cc in
       let end : b ≡ n = cc in
@@ -198,12 +199,12 @@ module _ (s : List ℕ) (row : DataRow) (n : ℕ) where
       → decodedBy (andThen r (λ v q. closed (take b s) q (k .message v))) b ≡ D.Record (M.DataRow row) n → Were
   unfolding closed decodedBy
   by-body k a b e (got v q) r d = by-end k a b e v q r (ltb q (length (take b s))) d
-  by-body k a b e (bad number place) r d = let z : _≡_ {A = ℕ} 0 1 = cc in absurd (omega arith)
+  by-body k a b e (bad number place) r d = absurd (zero-one cc)
 
   by-header : (h : Header) → headerOf fromBackend s ≡ h → decodeBy fromBackend s h ≡ D.Record (M.DataRow row) n → Were
   unfolding decodeBy
-  by-header more e d = let z : _≡_ {A = ℕ} 0 1 = cc in absurd (omega arith)
-  by-header (refuse number place) e d = let z : _≡_ {A = ℕ} 0 1 = cc in absurd (omega arith)
+  by-header more e d = absurd (zero-one cc)
+  by-header (refuse number place) e d = absurd (zero-one cc)
   by-header (framed k a b) e d = by-body k a b e (readEach (read fromBackend) (k .body) (take b s) a) refl d
 
   values-passed : decodeOf fromBackend s ≡ D.Record (M.DataRow row) n → Were
@@ -215,12 +216,12 @@ module _ (s : List ℕ) (row : DataRow) (n : ℕ) where
 -- an answer that is a row comes from a row that was decoded
 fits-by : (o : Option ListSlot) (consumed starts lengths : ℕ) (l : ListSlot) (n : ℕ) → R.Is l n ≡ rowFits o consumed starts lengths → (o ≡ some l) × (consumed ≡ n)
 unfolding rowFits
-fits-by none consumed starts lengths l n e = let z : _≡_ {A = ℕ} 0 1 = cc in absurd (omega arith)
+fits-by none consumed starts lengths l n e = absurd (zero-one cc)
 fits-by (some x) consumed starts lengths l n e = by (leb (x .count) starts && leb (x .count) lengths) e
   where
     by : (t : Bool) → R.Is l n ≡ cond t (R.Is x consumed) (R.Refused outputTooShort 0) → (_≡_ {A = Option ListSlot} (some x) (some l)) × (consumed ≡ n)
     by true q = let same : x ≡ l = cc in (ap some same, cc)
-    by false q = let z : _≡_ {A = ℕ} 0 1 = cc in absurd (omega arith)
+    by false q = absurd (zero-one cc)
 
 record Decoded-row (s : List ℕ) (l : ListSlot) (n : ℕ) : Type 0 where
   row : DataRow
@@ -233,8 +234,8 @@ decoded-row s (D.Record m k) starts lengths l n e q =
     let f = fits-by (rowIn m) k starts lengths l n q in
     let r = data-row m l (f .0) in
     record { row = r .0; is = e ∙ ap (λ (x : Message). D.Record x k) (r .1) ∙ ap (D.Record (M.DataRow (r .0))) (f .1); list = r .2 }
-decoded-row s D.NeedMore starts lengths l n e q = let z : _≡_ {A = ℕ} 0 1 = cc in absurd (omega arith)
-decoded-row s (D.Refused number place) starts lengths l n e q = let z : _≡_ {A = ℕ} 0 1 = cc in absurd (omega arith)
+decoded-row s D.NeedMore starts lengths l n e q = absurd (zero-one cc)
+decoded-row s (D.Refused number place) starts lengths l n e q = absurd (zero-one cc)
 
 -- the element of a value that was passed
 element-is : (f : List ℕ) (l : ListSlot) (i : ℕ) → i < l .count → (w : Passed fromBackend f (l .count) (l .start) i) → elementAt fromBackend f i (some (record { item = nullable; list = l })) ≡ elementAs (startOf (w .value)) (lengthOf (w .value))

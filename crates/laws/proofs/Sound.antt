@@ -14,6 +14,7 @@ use Rattle.protocol.specs.Decode.{Header, more, refuse, framed, tagAt, headerOf
 use Rattle.protocol.specs.Kinds.{Envelope, typed, untyped, bare, Kind}
 use Rattle.protocol.specs.Reading.{Read, got, bad}
 use Rattle.protocol.specs.WellFormed.{bodyBytes, lengthOf, header, bodyStart, frame, recordOf}
+use Rattle.protocol.proofs.Basics.{zero-one}
 use Rattle.protocol.proofs.Framed.{Framing, Framed, framed-is, framed-ends}
 use Rattle.laws.specs.Statements.{Accepted, Sound, theDecoder}
 use Rattle.laws.proofs.Answered.{recorded}
@@ -86,7 +87,7 @@ module _ (rules : Rules) (s : List ℕ) (b : Bytes s) where
 
   read-by : (k : Kind) (start end : ℕ) → Framed rules s k start end → (r : Message) (n : ℕ) (x : Read Message) → readBody rules k (k .message) (take end s) start ≡ x → decodedBy x end ≡ D.Record r n → Accepted rules s r n
   unfolding decodedBy
-  read-by k start end h r n (bad number place) x e = let z : _≡_ {A = ℕ} 0 1 = cc in absurd (omega arith)
+  read-by k start end h r n (bad number place) x e = absurd (zero-one cc)
   read-by k start end h r n (got m q) x e =
       let em : m ≡ r = cc in
       let en : end ≡ n = cc in
@@ -94,8 +95,8 @@ module _ (rules : Rules) (s : List ℕ) (b : Bytes s) where
 
   header-by : (h : Header) → headerOf rules s ≡ h → (r : Message) (n : ℕ) → decodeBy rules s h ≡ D.Record r n → Accepted rules s r n
   unfolding decodeBy
-  header-by more h r n e = let z : _≡_ {A = ℕ} 0 1 = cc in absurd (omega arith)
-  header-by (refuse number place) h r n e = let z : _≡_ {A = ℕ} 0 1 = cc in absurd (omega arith)
+  header-by more h r n e = absurd (zero-one cc)
+  header-by (refuse number place) h r n e = absurd (zero-one cc)
   header-by (framed k start end) h r n e = read-by k start end (framed-is rules s k start end h) r n (readBody rules k (k .message) (take end s) start) refl e
 
 pub sound : Sound theDecoder

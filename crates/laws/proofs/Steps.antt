@@ -17,6 +17,7 @@ use Rattle.protocol.specs.Answers.{Answer, success, needsMore, refusal, ofDecod
 use Rattle.protocol.specs.Decode.{decodeOf}
 use Rattle.protocol.specs.Stream as Stream
 use Rattle.protocol.specs.Stream.{whole, needMore, refused, frame, stop, stepBy, stepAt}
+use Rattle.protocol.proofs.Basics.{zero-one}
 use Rattle.listing.specs.Listing.{ofStep, stepOf}
 use Rattle.listing.specs.declared.Step.the-variants as S
 use Rattle.listing.specs.declared.Step.{Step}
@@ -33,7 +34,7 @@ success-is : {X : Type 0} {x y : X} {n m : ℕ} → success x n ≡ success y m 
 success-is {X} e = (ap (λ (a : Answer X). a .value) e, ap (λ (a : Answer X). a .consumed) e)
 
 none-some : {X : Type 0} {x : X} {n m : ℕ} → success {X = Option X} none n ≡ success (some x) m → ⊥
-none-some e = let v = success-is e .0 in let z : _≡_ {A = ℕ} 0 1 = cc in omega arith
+none-some e = let v = success-is e .0 in zero-one cc
 
 -- ---- a step as an answer, by what it is of a stream
 

@@ -5,7 +5,6 @@ use mathlib.Core.List.{List, [], _∷_}
 use mathlib.Core.Logic.{inl, inr, _↔_}
 use mathlib.Core.Option.{some}
 use mathlib.Core.Path.{_≡_, refl, ap, sym, _∙_}
-use native.Mathlib.Omega.{arith}
 use borrow.Author.Tests.{eqb-true, eq-eqb, ne-eqb}
 use lib.Dec.{T, eqb, eqb→eq}
 use Rattle.protocol.specs.declared.Rules.{Rules}
@@ -13,6 +12,7 @@ use Rattle.protocol.specs.Each.{leastOfEach}
 use Rattle.protocol.specs.Fields.{least}
 use Rattle.protocol.specs.Kinds.{Envelope, Kind, Mode, modes, IsIn, find, modeOf, kindIn}
 use Rattle.protocol.specs.WellFormed.{lengthOf}
+use Rattle.protocol.proofs.Basics.{zero-one}
 use Rattle.protocol.proofs.Find.{every, numberOf, tagOf}
 use Rattle.protocol.specs.Kinds.{the-table}
 use Rattle.laws.specs.Statements.{Table}
@@ -81,7 +81,7 @@ module _ {A : Type 0} (key : A → ℕ) where
 
   found : (xs : List A) (n : ℕ) (x : A) → find key n xs ≡ some x → IsIn x xs × (key x ≡ n)
   unfolding find
-  found [] n x e = let z : _≡_ {A = ℕ} 0 1 = cc in absurd (omega arith)
+  found [] n x e = absurd (zero-one cc)
   found (y ∷ ys) n x e = found-by (eqb n (key y)) n y ys x refl (found ys n x) e
 
   -- where no two share a key, what is in the list is found by its own

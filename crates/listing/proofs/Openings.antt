@@ -6,6 +6,7 @@ use mathlib.Core.Path.{_≡_, refl, ap}
 use native.Mathlib.Omega.{arith}
 use lib.ListN.{length, getD}
 use Rattle.protocol.specs.Kinds.{Mode, modes, find}
+use Rattle.protocol.proofs.Basics.{zero-one}
 use Rattle.protocol.proofs.Find.{Apart, keysOnto, find-apart}
 use Rattle.listing.specs.declared.Opening.the-variants as O
 use Rattle.listing.specs.Listing.{digitOf, sized, openingBy, openingOf}
@@ -30,5 +31,5 @@ unnamed (b ∷ s) h a = rw (find-apart digitOf b modes [] a .0) refl
 -- an input with a mode is not empty
 pub opens : (s : List ℕ) (mode : ℕ) → openingOf s ≡ O.Mode mode → 1 ≤ length s
 unfolding openingOf
-opens [] mode e = let z : _≡_ {A = ℕ} 0 1 = cc in absurd (omega arith)
+opens [] mode e = absurd (zero-one cc)
 opens (b ∷ s) mode e = omega arith

@@ -17,6 +17,7 @@ use Rattle.protocol.specs.Kinds.{Envelope, typed, untyped, bare}
 use Rattle.protocol.specs.Reading.{Read, got, bad}
 use Rattle.protocol.specs.Stream.{frame, stop, whole, stepBy, stepAt}
 use Rattle.protocol.specs.WellFormed.{bodyStart}
+use Rattle.protocol.proofs.Basics.{zero-one}
 use Rattle.protocol.proofs.Framed.{framed-is, framed-ends}
 
 module _ (rules : Rules) (s : List ℕ) (p : ℕ) where
@@ -36,7 +37,7 @@ module _ (rules : Rules) (s : List ℕ) (p : ℕ) where
 body-is : (b : Read Message) (end : ℕ) {m : Message} {n : ℕ} → decodedBy b end ≡ D.Record m n → end ≡ n
 unfolding decodedBy
 body-is (got x next) end e = cc
-body-is (bad number place) end e = let z : _≡_ {A = ℕ} 0 1 = cc in absurd (omega arith)
+body-is (bad number place) end e = absurd (zero-one cc)
 
 starts : (e : Envelope) → 1 ≤ bodyStart e
 starts typed = omega arith
@@ -45,8 +46,8 @@ starts bare = omega arith
 
 size-by : (rules : Rules) (s : List ℕ) (h : Header) {m : Message} {n : ℕ} → headerOf rules s ≡ h → decodeBy rules s h ≡ D.Record m n → (1 ≤ n) × (n ≤ length s)
 unfolding decodeBy
-size-by rules s more q e = let z : _≡_ {A = ℕ} 0 1 = cc in absurd (omega arith)
-size-by rules s (refuse number place) q e = let z : _≡_ {A = ℕ} 0 1 = cc in absurd (omega arith)
+size-by rules s more q e = absurd (zero-one cc)
+size-by rules s (refuse number place) q e = absurd (zero-one cc)
 size-by rules s (framed k start end) q e =
     let f = framed-is rules s k start end q in
     let b = framed-ends rules s k start end f in
@@ -60,11 +61,11 @@ record-size rules s e = size-by rules s (headerOf rules s) refl e
 decoded-is : (d : Decoded) {m : Message} {n : ℕ} → stepBy d ≡ frame m n → d ≡ D.Record m n
 unfolding stepBy
 decoded-is (D.Record x k) e = cc
-decoded-is D.NeedMore e = let z : _≡_ {A = ℕ} 0 1 = cc in absurd (omega arith)
-decoded-is (D.Refused number place) e = let z : _≡_ {A = ℕ} 0 1 = cc in absurd (omega arith)
+decoded-is D.NeedMore e = absurd (zero-one cc)
+decoded-is (D.Refused number place) e = absurd (zero-one cc)
 
 chosen : (t : Bool) (d : Decoded) {m : Message} {n : ℕ} → cond t (stop whole) (stepBy d) ≡ frame m n → (t ≡ false) × (d ≡ D.Record m n)
-chosen true d e = let z : _≡_ {A = ℕ} 0 1 = cc in absurd (omega arith)
+chosen true d e = absurd (zero-one cc)
 chosen false d e = (refl, decoded-is d e)
 
 pub frame-size : (rules : Rules) (s : List ℕ) (p : ℕ) {m : Message} {n : ℕ} → stepAt rules s p ≡ frame m n → (1 ≤ n) × (p + n ≤ length s)

@@ -1,6 +1,5 @@
 -- A count that was read, and lists of items that all have one size.
 use Prim.Native.Nat.{ℕ, zero, suc, _+_, _-_, _*_, _≤_, _<_}
-use mathlib.Core.Bool.{Bool, true, false, cond}
 use mathlib.Core.List.{List}
 use mathlib.Core.Path.{_≡_, refl, ap, _∙_, sym}
 use native.Mathlib.Omega.{arith}
@@ -13,7 +12,7 @@ use Rattle.protocol.specs.declared.Rules.{Rules}
 use Rattle.protocol.specs.Each.{Each}
 use Rattle.protocol.specs.Fields.{AtomSlot, Item, Count, countOf}
 use Rattle.protocol.specs.Reading.{Read, got, bad, andThen, readNumber, readItem, passItems, countAt, readCount}
-use Rattle.protocol.specs.Refusals.{badCount}
+use Rattle.protocol.proofs.Basics.{bad-got, first-chosen}
 use Rattle.protocol.proofs.Numbers.{whole}
 
 -- the list starts where the count ends, and that many of its smallest elements fit into what is left
@@ -25,8 +24,11 @@ pub record Counted (k : Count) (least : ℕ) (f : List ℕ) (p : ℕ) (l : ListS
   pub fits : q ≤ length f
   pub room : l .count * least ≤ length f - q
 
-room-by : (k : Count) (least : ℕ) (f : List ℕ) (p n m q q′ : ℕ) (l : ListSlot) (t : Bool) → leb (n * least) (length f - q) ≡ t → readNumber 2 f p ≡ got m q → countOf k m ≡ pos n → cond t (got (record { start = q; count = n }) q) (bad badCount p) ≡ got l q′ → Counted k least f p l q′
-room-by k least f p n m q q′ l true t r s e =
+sign-by : (k : Count) (least : ℕ) (f : List ℕ) (p m q q′ : ℕ) (l : ListSlot) (z : ℤ) → readNumber 2 f p ≡ got m q → countOf k m ≡ z → countAt least z f p q ≡ got l q′ → Counted k least f p l q′
+unfolding countAt
+sign-by k least f p m q q′ l (pos n) r s e =
+    let c = first-chosen (leb (n * least) (length f - q)) bad-got e in
+    let g = c .1 in
     let el : _≡_ {A = ListSlot} (record { start = q; count = n }) l = cc in
     let eq : q ≡ q′ = cc in
     let en : n ≡ l .count = ap (λ (l : ListSlot). l .count) el in
@@ -37,18 +39,13 @@ room-by k least f p n m q q′ l true t r s e =
       count = s ∙ ap pos en;
       start = sym es ∙ eq;
       fits = rw (← eq) (whole 2 f p m q r .fits);
-      room = rw (← eq, ← en) (leb-true _ _ t);
+      room = rw (← eq, ← en) (leb-true _ _ (c .0));
     }
-room-by k least f p n m q q′ l false t r s e = let z : _≡_ {A = ℕ} 0 1 = cc in absurd (omega arith)
-
-sign-by : (k : Count) (least : ℕ) (f : List ℕ) (p m q q′ : ℕ) (l : ListSlot) (z : ℤ) → readNumber 2 f p ≡ got m q → countOf k m ≡ z → countAt least z f p q ≡ got l q′ → Counted k least f p l q′
-unfolding countAt
-sign-by k least f p m q q′ l (pos n) r s e = room-by k least f p n m q q′ l (leb (n * least) (length f - q)) refl r s e
-sign-by k least f p m q q′ l (negsuc n) r s e = let z : _≡_ {A = ℕ} 0 1 = cc in absurd (omega arith)
+sign-by k least f p m q q′ l (negsuc n) r s e = absurd (bad-got e)
 
 count-by : (k : Count) (least : ℕ) (f : List ℕ) (p q′ : ℕ) (l : ListSlot) (r : Read ℕ) → readNumber 2 f p ≡ r → andThen r (λ n q. countAt least (countOf k n) f p q) ≡ got l q′ → Counted k least f p l q′
 count-by k least f p q′ l (got m q) r e = sign-by k least f p m q q′ l (countOf k m) r refl e
-count-by k least f p q′ l (bad c b) r e = let z : _≡_ {A = ℕ} 0 1 = cc in absurd (omega arith)
+count-by k least f p q′ l (bad c b) r e = absurd (bad-got e)
 
 pub counted-is : (k : Count) (least : ℕ) (f : List ℕ) (p q : ℕ) (l : ListSlot) → readCount k least f p ≡ got l q → Counted k least f p l q
 unfolding readCount

@@ -15,6 +15,7 @@ use Rattle.protocol.specs.Fields.{AtomSlot, Item}
 use Rattle.protocol.specs.Kinds.{errorField}
 use Rattle.protocol.specs.Reading.{Read, got, bad, andThen, readNumber, textAt, readText, zeroIn, readItem, endedFrom}
 use Rattle.protocol.specs.Refusals.{cut}
+use Rattle.protocol.proofs.Basics.{bad-got}
 use Rattle.protocol.proofs.Numbers.{whole}
 
 -- an item that is read takes at least a byte
@@ -67,7 +68,7 @@ module _ (rules : Rules) (i : Item) (f : List ℕ) where
 -- a string takes at least its zero byte
 text-by : (z : Option ℕ) (p e : ℕ) (s : Span) → textAt p z ≡ got s e → p < e
 unfolding textAt
-text-by none p e s r = let z : _≡_ {A = ℕ} 0 1 = cc in absurd (omega arith)
+text-by none p e s r = absurd (bad-got r)
 text-by (some n) p e s r = let q : p + n + 1 ≡ e = cc in omega arith
 
 pub text-grows : (f : List ℕ) (p e : ℕ) (s : Span) → readText f p ≡ got s e → p < e
@@ -84,11 +85,11 @@ error-grows rules f p e s r = number (readNumber 1 f p) refl r
         let l = text-grows f q x t h in
         let z : x ≡ e = cc in
         omega (arith, w .next)
-    string b q m (bad k x) h r = let z : _≡_ {A = ℕ} 0 1 = cc in absurd (omega arith)
+    string b q m (bad k x) h r = absurd (bad-got r)
 
     number : (m : Read ℕ) → readNumber 1 f p ≡ m → andThen m (λ b q. andThen (andThen (readText f q) (λ s q. got (s, tt) q)) (λ ss e. got (b, ss) e)) ≡ got s e → p < e
     number (got b q) m r = string b q m (readText f q) refl r
-    number (bad k x) m r = let z : _≡_ {A = ℕ} 0 1 = cc in absurd (omega arith)
+    number (bad k x) m r = absurd (bad-got r)
 
 module _ (rules : Rules) (f : List ℕ) (p b q : ℕ) (e : got b q ≡ readNumber 1 f p) where
   pub error-item : (t : Span) (x : ℕ) → got t x ≡ readText f q → got (b, (t, tt)) x ≡ readItem rules errorField f p

@@ -5,12 +5,12 @@ use mathlib.Core.List.{List, [], _∷_}
 use mathlib.Core.Logic.{inl, inr}
 use mathlib.Core.Option.{some, none}
 use mathlib.Core.Path.{_≡_, refl, ap, sym}
-use native.Mathlib.Omega.{arith}
 use borrow.Author.Tests.{ne-eqb}
 use lib.Dec.{T, eqb}
 use Rattle.protocol.specs.declared.Rules.{Rules}
 use Rattle.protocol.specs.Bytes.{isOneOf}
 use Rattle.protocol.specs.Kinds.{Kind, Mode, modes, IsIn, find, modeOf, kindIn}
+use Rattle.protocol.proofs.Basics.{none-some, left-holds, right-holds}
 
 -- t is none of some keys, as the last arm of a `match` knows it: the last key outermost
 abbrev pub Apart : ℕ → List ℕ → Type 0
@@ -34,14 +34,6 @@ abbrev pub every : {A : Type 0} → (A → Bool) → List A → Bool
 every test [] = true
 every test (x ∷ xs) = test x && every test xs
 
-and-left : (a b : Bool) → T (a && b) → T a
-and-left true b t = tt
-and-left false b t = t
-
-and-right : (a b : Bool) → T (a && b) → T b
-and-right true b t = t
-and-right false b t = absurd t
-
 module _ {A : Type 0} (key : A → ℕ) (test : A → Bool) where
   every-by : (x : A) (xs : List A) (k : ℕ) (y : A) (t : Bool) → T (test x) → (find key k xs ≡ some y → T (test y)) → cond t (some x) (find key k xs) ≡ some y → T (test y)
   every-by x xs k y true h ih e = let q : x ≡ y = cc in rw (← q) h
@@ -49,9 +41,9 @@ module _ {A : Type 0} (key : A → ℕ) (test : A → Bool) where
 
   pub find-every : (xs : List A) (k : ℕ) (y : A) → T (every test xs) → find key k xs ≡ some y → T (test y)
   unfolding find
-  find-every [] k y t e = let z : _≡_ {A = ℕ} 0 1 = cc in absurd (omega arith)
+  find-every [] k y t e = absurd (none-some e)
   find-every (x ∷ xs) k y t e =
-      every-by x xs k y (eqb k (key x)) (and-left (test x) (every test xs) t) (λ h. find-every xs k y (and-right (test x) (every test xs) t) h) e
+      every-by x xs k y (eqb k (key x)) (left-holds (test x) (every test xs) t) (λ h. find-every xs k y (right-holds (test x) (every test xs) t) h) e
 
 -- and what holds of each row holds of it
 abbrev pub All : {A : Type 0} → (A → Type 0) → List A → Type 0
@@ -62,6 +54,11 @@ pub in-all : {A : Type 0} (P : A → Type 0) (xs : List A) → All P xs → (x :
 in-all P (y ∷ ys) h x (inl e) = rw e (h .0)
 in-all P (y ∷ ys) h x (inr i) = in-all P ys (h .1) x i
 
+-- and a test that passes of each passes of it
+pub every-in : {A : Type 0} (test : A → Bool) (xs : List A) → T (every test xs) → (x : A) → IsIn x xs → T (test x)
+every-in test (y ∷ ys) t x (inl e) = rw e (left-holds (test y) (every test ys) t)
+every-in test (y ∷ ys) t x (inr i) = every-in test ys (right-holds (test y) (every test ys) t) x i
+
 module _ {A : Type 0} (key : A → ℕ) (P : A → Type 0) where
   all-by : (x : A) (xs : List A) (k : ℕ) (y : A) (t : Bool) → P x → (find key k xs ≡ some y → P y) → cond t (some x) (find key k xs) ≡ some y → P y
   all-by x xs k y true h ih e = let q : x ≡ y = cc in rw (← q) h
@@ -69,7 +66,7 @@ module _ {A : Type 0} (key : A → ℕ) (P : A → Type 0) where
 
   pub find-all : (xs : List A) (k : ℕ) (y : A) → All P xs → find key k xs ≡ some y → P y
   unfolding find
-  find-all [] k y h e = let z : _≡_ {A = ℕ} 0 1 = cc in absurd (omega arith)
+  find-all [] k y h e = absurd (none-some e)
   find-all (x ∷ xs) k y h e = all-by x xs k y (eqb k (key x)) (h .0) (λ e. find-all xs k y (h .1) e) e
 
 abbrev pub tagOf : Kind → ℕ

@@ -1,6 +1,6 @@
 -- What is known where a header names a whole frame.
 use Prim.Native.Nat.{ℕ, _+_, _≤_}
-use mathlib.Core.Bool.{Bool, true, false, cond}
+use mathlib.Core.Bool.{Bool}
 use mathlib.Core.List.{List}
 use mathlib.Core.Option.{Option, some, none}
 use mathlib.Core.Path.{_≡_, refl, ap, sym}
@@ -8,26 +8,17 @@ use native.Mathlib.Omega.{arith}
 use borrow.Author.Tests.{ltb-false, eqb-false}
 use lib.Dec.{T, leb, leb→le, ltb, eqb}
 use lib.IntN.{ℤ, pos, negsuc}
-use lib.ListN.{length}
+use lib.ListN.{length, take}
+use Rattle.protocol.specs.declared.Decoded.the-variants as D
+use Rattle.protocol.specs.declared.Message.{Message}
 use Rattle.protocol.specs.declared.Rules.{Rules}
 use Rattle.protocol.specs.Bytes.{numberAt, signedOf}
-use Rattle.protocol.specs.Decode.{Header, more, refuse, framed, lengthBy, typedBy, untypedBy, bareBy, tagAt, headerIn, headerBy, headerOf}
+use Rattle.protocol.specs.Decode.{Header, more, refuse, framed, lengthBy, typedBy, untypedBy, bareBy, tagAt, headerIn, headerBy, headerOf, bodyOf, decodedBy, decodeBy, decodeOf}
 use Rattle.protocol.specs.Kinds.{Envelope, typed, untyped, bare, Kind, Mode, modes, modeOf, kindIn, the-table}
+use Rattle.protocol.specs.Reading.{Read, got, bad}
 use Rattle.protocol.specs.WellFormed.{bodyStart, lengthOf}
+use Rattle.protocol.proofs.Basics.{more-framed, refuse-framed, waits-record, refused-record, second-chosen}
 use Rattle.protocol.proofs.Find.{every, find-every, numberOf, tagOf}
-
--- ---- two kinds of header are never equal
-
-more-framed : {k : Kind} {a b : ℕ} → more ≡ framed k a b → ⊥
-more-framed e = let z : _≡_ {A = ℕ} 0 1 = cc in omega arith
-
-refuse-framed : {k : Kind} {n p a b : ℕ} → refuse n p ≡ framed k a b → ⊥
-refuse-framed e = let z : _≡_ {A = ℕ} 0 1 = cc in omega arith
-
--- a test that chose the second of two headers
-chosen : (t : Bool) (a b h : Header) → ((a ≡ h) → ⊥) → cond t a b ≡ h → (t ≡ false) × (b ≡ h)
-chosen true a b h n e = absurd (n e)
-chosen false a b h n e = (refl, e)
 
 -- ---- the length word at p passed its checks, and the frame is there
 
@@ -43,9 +34,9 @@ sized-by : (k : Kind) (p start : ℕ) (s : List ℕ) (z : ℤ) (h : Kind) (a b :
 unfolding lengthBy
 sized-by k p start s (negsuc n) h a b w e = absurd (refuse-framed e)
 sized-by k p start s (pos n) h a b w e =
-    let c1 = chosen (ltb n (k .smallest)) _ _ _ refuse-framed e in
-    let c2 = chosen (ltb (k .limit) n) _ _ _ refuse-framed (c1 .1) in
-    let c3 = chosen (ltb (length s) (p + n)) _ _ _ more-framed (c2 .1) in
+    let c1 = second-chosen (ltb n (k .smallest)) refuse-framed e in
+    let c2 = second-chosen (ltb (k .limit) n) refuse-framed (c1 .1) in
+    let c3 = second-chosen (ltb (length s) (p + n)) more-framed (c2 .1) in
     let f = c3 .1 in
     let eb : p + n ≡ b = cc in
     let l : p + n ≤ length s = ltb-false _ _ (c3 .0) in
@@ -60,22 +51,22 @@ Framing bare k s end = (1 ≤ length s) × (end ≡ 1)
 
 framing-by : (e : Envelope) (o : Option Kind) (s : List ℕ) (k : Kind) (a b : ℕ) → headerIn e o s ≡ framed k a b → (o ≡ some k) × (a ≡ bodyStart e) × Framing e k s b
 unfolding headerIn typedBy untypedBy bareBy
-framing-by typed none s k a b e = absurd (refuse-framed (chosen (eqb (length s) 0) _ _ _ more-framed e .1))
+framing-by typed none s k a b e = absurd (refuse-framed (second-chosen (eqb (length s) 0) more-framed e .1))
 framing-by typed (some h) s k a b e =
-    let c1 = chosen (eqb (length s) 0) _ _ _ more-framed e in
-    let c2 = chosen (ltb (length s) 5) _ _ _ more-framed (c1 .1) in
+    let c1 = second-chosen (eqb (length s) 0) more-framed e in
+    let c2 = second-chosen (ltb (length s) 5) more-framed (c1 .1) in
     let r = sized-by h 1 5 s _ k a b refl (c2 .1) in
     let q = r .0 in
     (ap some q, sym (r .1), (ltb-false _ _ (c2 .0), rw (← q) (r .2)))
-framing-by untyped none s k a b e = absurd (refuse-framed (chosen (ltb (length s) 8) _ _ _ more-framed e .1))
+framing-by untyped none s k a b e = absurd (refuse-framed (second-chosen (ltb (length s) 8) more-framed e .1))
 framing-by untyped (some h) s k a b e =
-    let c1 = chosen (ltb (length s) 8) _ _ _ more-framed e in
+    let c1 = second-chosen (ltb (length s) 8) more-framed e in
     let r = sized-by h 0 8 s _ k a b refl (c1 .1) in
     let q = r .0 in
     (ap some q, sym (r .1), (ltb-false _ _ (c1 .0), rw (← q) (r .2)))
-framing-by bare none s k a b e = absurd (refuse-framed (chosen (eqb (length s) 0) _ _ _ more-framed e .1))
+framing-by bare none s k a b e = absurd (refuse-framed (second-chosen (eqb (length s) 0) more-framed e .1))
 framing-by bare (some h) s k a b e =
-    let c1 = chosen (eqb (length s) 0) _ _ _ more-framed e in
+    let c1 = second-chosen (eqb (length s) 0) more-framed e in
     let f = c1 .1 in
     let z : length s ≡ 0 → ⊥ = eqb-false _ _ (c1 .0) in
     let eb : 1 ≡ b = cc in
@@ -124,3 +115,29 @@ unfolding modeOf kindIn
 framed-ends rules s k start end f =
     let m = find-every numberOf roomyMode modes (rules .mode) (f .mode) all-roomy (f .known) in
     ends-by (f .mode .envelope) k s end (find-every tagOf (roomyKind (f .mode .envelope)) (f .mode .kinds) _ k m (f .tag)) (f .framing)
+
+-- ---- a frame that was decoded
+
+starts-within : (e : Envelope) → 1 ≤ bodyStart e
+starts-within typed = omega arith
+starts-within untyped = omega arith
+starts-within bare = omega arith
+
+size-by : (rules : Rules) (s : List ℕ) (h : Header) {m : Message} {n : ℕ} → headerOf rules s ≡ h → decodeBy rules s h ≡ D.Record m n → (1 ≤ n) × (n ≤ length s)
+unfolding decodeBy decodedBy
+size-by rules s more q e = absurd (waits-record e)
+size-by rules s (refuse number place) q e = absurd (refused-record e)
+size-by rules s (framed k start end) {m} {n} q e =
+    let f = framed-is rules s k start end q in
+    let b = framed-ends rules s k start end f in
+    let x = consumed (bodyOf rules k (take end s) start) e in
+    (omega (arith, b .0, starts-within (f .mode .envelope)), omega (arith, b .1))
+  where
+    consumed : (b : Read Message) → decodedBy b end ≡ D.Record m n → end ≡ n
+    consumed (got x next) e = cc
+    consumed (bad number place) e = absurd (refused-record e)
+
+-- it has a byte at least, and all that is consumed is in the buffer
+pub record-size : (rules : Rules) (s : List ℕ) {m : Message} {n : ℕ} → decodeOf rules s ≡ D.Record m n → (1 ≤ n) × (n ≤ length s)
+unfolding decodeOf
+record-size rules s e = size-by rules s (headerOf rules s) refl e

@@ -1,3 +1,4 @@
+pub mod Basics
 pub mod Find
 pub mod Numbers
 pub mod Counts

@@ -1,6 +1,5 @@
 -- Numbers that are read: where one was read it is whole, and what its sign is.
 use Prim.Native.Nat.{ℕ, zero, suc, _+_, _-_, _/_, _^_, _≤_, _<_}
-use mathlib.Core.Bool.{Bool, true, false, cond}
 use mathlib.Core.List.{List, [], _∷_}
 use mathlib.Core.Path.{_≡_, refl, ap, _∙_, sym}
 use native.Mathlib.Omega.{arith}
@@ -11,7 +10,7 @@ use lib.ListN.{length, take, drop}
 use lib.Seq.{length-take-le, take-nil, take-take}
 use Rattle.protocol.specs.Bytes.{numberAt, signedOf}
 use Rattle.protocol.specs.Reading.{got, bad, readNumber}
-use Rattle.protocol.specs.Refusals.{cut}
+use Rattle.protocol.proofs.Basics.{got-bad, bad-got, first-chosen, second-chosen}
 
 -- a number that was read
 pub record Whole (w : ℕ) (f : List ℕ) (p n q : ℕ) : Type 0 where
@@ -19,26 +18,20 @@ pub record Whole (w : ℕ) (f : List ℕ) (p n q : ℕ) : Type 0 where
   pub next : q ≡ p + w
   pub is : n ≡ numberAt w f p
 
-whole-by : (w : ℕ) (f : List ℕ) (p n q : ℕ) (t : Bool) → leb (p + w) (length f) ≡ t → cond t (got (numberAt w f p) (p + w)) (bad cut p) ≡ got n q → Whole w f p n q
-whole-by w f p n q true l e =
-    let en : numberAt w f p ≡ n = cc in
-    let eq : p + w ≡ q = cc in
-    let h : p + w ≤ length f = leb-true _ _ l in
-    record { fits = omega arith; next = sym eq; is = sym en }
-whole-by w f p n q false l e = let z : _≡_ {A = ℕ} 0 1 = cc in absurd (omega arith)
-
 pub whole : (w : ℕ) (f : List ℕ) (p n q : ℕ) → readNumber w f p ≡ got n q → Whole w f p n q
 unfolding readNumber
-whole w f p n q e = whole-by w f p n q (leb (p + w) (length f)) refl e
+whole w f p n q e =
+    let c = first-chosen (leb (p + w) (length f)) bad-got e in
+    let g = c .1 in
+    let en : numberAt w f p ≡ n = cc in
+    let eq : p + w ≡ q = cc in
+    let h : p + w ≤ length f = leb-true _ _ (c .0) in
+    record { fits = omega arith; next = sym eq; is = sym en }
 
 -- a number that was not
-cut-by : (w : ℕ) (f : List ℕ) (p k q : ℕ) (t : Bool) → leb (p + w) (length f) ≡ t → cond t (got (numberAt w f p) (p + w)) (bad cut p) ≡ bad k q → length f < p + w
-cut-by w f p k q true l e = let z : _≡_ {A = ℕ} 0 1 = cc in absurd (omega arith)
-cut-by w f p k q false l e = leb-false _ _ l
-
 pub not-whole : (w : ℕ) (f : List ℕ) (p k q : ℕ) → readNumber w f p ≡ bad k q → length f < p + w
 unfolding readNumber
-not-whole w f p k q e = cut-by w f p k q (leb (p + w) (length f)) refl e
+not-whole w f p k q e = leb-false _ _ (second-chosen (leb (p + w) (length f)) got-bad e .0)
 
 -- the lower half is not negative, the upper half is
 pub lower : (w n : ℕ) → n < 256 ^ w / 2 → signedOf w n ≡ pos n

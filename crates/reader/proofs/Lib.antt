@@ -1,3 +1,4 @@
+pub mod Claims
 pub mod Thin
-pub mod Rows
+pub mod RowRoom
 pub mod Places

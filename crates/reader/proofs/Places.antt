@@ -14,21 +14,25 @@ use lib.Signed.{mag}
 use lib.Seq.{sets, sets-eq}
 use Rattle.protocol.specs.declared.Span.{Span}
 use Rattle.protocol.specs.Reading.{Read, got, bad, readValue}
+use Rattle.protocol.proofs.Basics.{zero-one}
 use Rattle.reader.specs.declared.row.Entry.the-variants as E
 use Rattle.reader.specs.declared.row.Entry.{Entry}
-use Rattle.reader.specs.Row.{Place, lengthWord, entryOf, placesBy, placesFrom, over}
+use Rattle.reader.specs.Row.{Place, longest, lengthWord, entryOf, placesBy, placesFrom, over}
+
+is-stop : {start next : ℕ} {len : ℤ} → E.Is start len next ≡ E.Stop → ⊥
+is-stop e = zero-one cc
 
 -- ---- an entry's length fits a signed word
 
-word-fits : (n : ℕ) (t : Bool) → ltb n 2147483648 ≡ t → mag (cond t (pos n) (pos 2147483647)) < 2147483648
-word-fits n true h = ltb-true n 2147483648 h
+word-fits : (n : ℕ) (t : Bool) → ltb n (suc longest) ≡ t → mag (cond t (pos n) (pos longest)) < suc longest
+word-fits n true h = ltb-true n (suc longest) h
 word-fits n false h = omega arith
 
-pub length-fits : (r : Read (Option Span)) (start next : ℕ) (len : ℤ) → E.Is start len next ≡ entryOf r → mag len < 2147483648
+pub length-fits : (r : Read (Option Span)) (start next : ℕ) (len : ℤ) → E.Is start len next ≡ entryOf r → mag len < suc longest
 unfolding entryOf
 length-fits (got none q) start next len e = let is : len ≡ negsuc 0 = cc in rw is (omega arith)
-length-fits (got (some s) q) start next len e = let is : len ≡ lengthWord (s .len) = cc in rw is (word-fits (s .len) (ltb (s .len) 2147483648) refl)
-length-fits (bad number place) start next len e = let z : _≡_ {A = ℕ} 0 1 = cc in absurd (omega arith)
+length-fits (got (some s) q) start next len e = let is : len ≡ lengthWord (s .len) = cc in rw is (word-fits (s .len) (ltb (s .len) (suc longest)) refl)
+length-fits (bad number place) start next len e = absurd (is-stop e)
 
 -- ---- the entries that are left
 

@@ -12,10 +12,13 @@ use mir.Syntax.{Fn, Name, Ty, named, erased, imm, w8, w64, tyInt, tyRef, tyStruc
 use mir.Val.{Val, WT, hasTy, vint}
 use base.Logic.{SProp, ent, sep, emp, via, fst∗, snd∗, exE, id⊢}
 use base.Fml.{Lft, Share, Fml, ftrue, flft}
-use prog.Wp.{Heap, Calls, Loops, WpFn, Tables}
+use prog.Model.{Model}
+use prog.Routine.{Env, Routine}
+use prog.Wp.{Heap, Calls, Loops, WpFn, Tables, Closed}
 use ghost.Atoms.{Atoms, sem}
 use contract.Lifetimes.{Lfts}
 use contract.Monad.{fact}
+use contract.Running.{GhostRules, Running, givenOf, tables, tablesOf}
 use types.Kit.{Given, ‵, raw, _⊛_, given, ⋆, some, later, _$_, _∵_, !, qed, by, move, drop, use1, use2, split, join, learn, pick, fsplit, fjoin, suffices, frame, await, done}
 use types.Part.{whole, sub, look-in}
 use types.Run.{look, init, forget, stop, fld, from, load, of-opd, and-then, no-more, assigns, land, returns, enter, alloc1, alloc0, params1, pass1, pass0, free1, free0}
@@ -36,6 +39,7 @@ use denote.Triple.Statement.{Contract, Triple}
 use denote.Triple.Call.{calls-at}
 use denote.Triple.Entry.{Vals, onEntry}
 use denote.Triple.Spec.{Meets, tripleOf}
+use denote.Triple.Table.{entered, cited}
 use denote.Triple.Walked.{says, Stays, stay-none, walkOf, goes-none, Walks, ends-at, walked, walk-meets}
 use denote.Exit.{yes}
 use denote.Triple.Clauses.{Ended, Clauses, closing, ensured, lasts}
@@ -178,6 +182,15 @@ module _ (callee : Name) (τ : Ty) (R : RattleType) (Claim : List ℕ → ℕ �
   thin-walks C Λ fm known = walked 𝓤 H A (thinEnded R) (stayed R) (thinClauses R Claim 𝓤) (WpFn 𝓤 H C Λ (thin callee τ)) (λ κs. (LL.vals (T.the-type (namedLft 1 0 tt κs)) (T′.the-laws (namedLft 1 0 tt κs)), tt)) (λ κs. (LL.tells (T.the-type (namedLft 1 0 tt κs)) (T′.the-laws (namedLft 1 0 tt κs)), tt))
       (λ κs qs bounds a g are. via 𝓤 _ (fst∗ 𝓤 _ (emp 𝓤)) (walk (κs .0) (qs .0) (a .0) C Λ fm known (LL.lawful (T.the-type (namedLft 1 0 tt κs)) (T′.the-laws (namedLft 1 0 tt κs)) 𝓤 H A W .typed (a .0) _ (are .0) .0)))
 
-  pub thin-meets : (𝓣 : Tables 𝓤 H) → Triple 𝓤 (𝓣 .C callee) Called → Meets 𝓤 H A (thinEnded R .signature) (WpFn 𝓤 H (𝓣 .C) (𝓣 .Λ) (thin callee τ)) (closing 𝓤 H A (thinEnded R) (thinClauses R Claim 𝓤))
+  thin-meets : (𝓣 : Tables 𝓤 H) → Triple 𝓤 (𝓣 .C callee) Called → Meets 𝓤 H A (thinEnded R .signature) (WpFn 𝓤 H (𝓣 .C) (𝓣 .Λ) (thin callee τ)) (closing 𝓤 H A (thinEnded R) (thinClauses R Claim 𝓤))
   thin-meets 𝓣 known = walk-meets 𝓤 H A (thinEnded R) (stayed R) W (goes-none 𝓤 H A W 1 B yes (λ κs x f. refl), tt) (thinClauses R Claim 𝓤) (WpFn 𝓤 H (𝓣 .C) (𝓣 .Λ) (thin callee τ)) (WpFn-mono 𝓤 H (W .laws) 𝓣 (thin callee τ))
       (thin-walks (𝓣 .C) (𝓣 .Λ) (fmOf 𝓤 H (W .laws) 𝓣) known)
+
+-- over the machine's tables: the function of this name, which has this code and calls one that is proved
+module _ (callee : Name) (τ : Ty) (R : RattleType) (Claim : List ℕ → ℕ → R .Denot → Type 0) {M : Type 1} (𝓤 : URA M) (H : Heap 𝓤) (𝓜 : Model 𝓤 H) (𝓖 : GhostRules 𝓤 H) (𝓡 : Running 𝓤 H 𝓜) (typed : Typed τ R) where
+  pub thin-entered : (env : Env) (name : Name) → Closed 𝓤 H (tables 𝓤 H 𝓜 𝓡 env .C) (tables 𝓤 H 𝓜 𝓡 env .Λ) name (thin callee τ) → (routine : Routine) → env callee ≡ routine → Triple 𝓤 (𝓡 .run routine) (CalledBy R Claim 𝓤 H (𝓖 .A))
+      → Triple 𝓤 (tables 𝓤 H 𝓜 𝓡 env .C name) (tripleOf 𝓤 H (𝓖 .A) (thinEnded R .signature) (closing 𝓤 H (𝓖 .A) (thinEnded R) (thinClauses R Claim 𝓤)))
+  unfolding tablesOf
+  thin-entered env name closed routine is met =
+      entered 𝓤 H (tripleOf 𝓤 H (𝓖 .A) (thinEnded R .signature) (closing 𝓤 H (𝓖 .A) (thinEnded R) (thinClauses R Claim 𝓤))) (tables 𝓤 H 𝓜 𝓡 env .C) (tables 𝓤 H 𝓜 𝓡 env .Λ) name (thin callee τ) closed
+      (thin-meets callee τ R Claim 𝓤 H (𝓖 .A) (givenOf 𝓤 H 𝓜 𝓖) typed (tablesOf 𝓤 H 𝓜 (tables 𝓤 H 𝓜 𝓡 env)) (cited 𝓤 H (CalledBy R Claim 𝓤 H (𝓖 .A)) 𝓜 𝓡 env callee routine is met))

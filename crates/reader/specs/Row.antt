@@ -27,9 +27,13 @@ use Rattle.reader.specs.declared.row.Row.{Row}
 
 -- ---- entries
 
+-- the largest signed word
+abbrev pub longest : ℕ
+longest = 2147483647
+
 -- a length as a signed word; a frame's limit keeps a value's far below the largest
 abbrev pub lengthWord : ℕ → ℤ
-lengthWord n = cond (ltb n 2147483648) (pos n) (pos 2147483647)
+lengthWord n = cond (ltb n (suc longest)) (pos n) (pos longest)
 
 -- NULL starts at 0 and has the length -1
 abbrev pub startOf : Option Span → ℕ

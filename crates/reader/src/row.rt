@@ -28,10 +28,17 @@ pub enum Entry {
     Stop,
 }
 
+// The largest signed word.
+const LONGEST: usize = 2147483647;
+
 fn signed_length(n: usize) -> i32
     ensures { λ r. ⌜ r ≡ lengthWord n ⌝ }
 {
-    if n < 2147483648 { n as i32 } else { 2147483647 }
+    if n <= LONGEST {
+        n as i32
+    } else {
+        LONGEST as i32
+    }
 }
 
 fn entry_at(frame: &[u8], at: usize) -> Entry

@@ -13,11 +13,11 @@ use Rattle.protocol.specs.Each.{bytesOfEach}
 use Rattle.protocol.specs.Encode.{rowFieldGiven}
 use Rattle.protocol.specs.Fields.{atomBytes, itemBytes}
 use Rattle.protocol.specs.Kinds.{rowField}
-use Rattle.writers.specs.Writing.{write, Wrote}
+use Rattle.writers.specs.Writing.{largest, write, Wrote}
 use Rattle.writers.proofs.Laws.{_then_}
-use Rattle.writers.proofs.Lists.{and-left, and-right}
-use Rattle.row_fields.specs.declared.Pen.{Pen}
-use Rattle.row_fields.specs.Passes.{passed, numbers, after, stepPen, stepOut}
+use Rattle.protocol.proofs.Basics.{and-left, and-right}
+use Rattle.row_fields.specs.declared.Pass.{Pass}
+use Rattle.row_fields.specs.Passes.{passed, numbers, after, stepPass, stepOut}
 
 pub part-length : (xs : List ℕ) (s n : ℕ) → s + n ≤ length xs → length (take n (drop s xs)) ≡ n
 part-length xs s n h = omega (arith, length-take n (drop s xs), length-drop s xs)
@@ -41,12 +41,12 @@ unfolding passed
 inside writing f run e = leb-true _ _ (and-left _ (cond writing true (noZero (take (f .name .len) (drop (f .name .start) run)))) e)
 
 -- what the code has found of a field: whether its name can be written, and the place after it
-module _ (c : Pen) (f : FieldDescription) (run : List ℕ) {able : Bool} {next : ℕ} (same : able ≡ passed (c .writing) f run) (place : next ≡ after c f) where
-  pub penned : record { at = next; ok = c .ok && able; writing = c .writing } ≡ stepPen c f run
-  unfolding stepPen
-  penned = rw (same, place) refl
+module _ (c : Pass) (f : FieldDescription) (run : List ℕ) {able : Bool} {next : ℕ} (same : able ≡ passed (c .writing) f run) (place : next ≡ after c f) where
+  pub stepped : record { at = next; ok = c .ok && able; writing = c .writing } ≡ stepPass c f run
+  unfolding stepPass
+  stepped = rw (same, place) refl
 
-  pub roomy : (out : List ℕ) → able && leb next (length out) ≡ true → length out < 18446744073709551615
+  pub roomy : (out : List ℕ) → able && leb next (length out) ≡ true → length out < largest
       → (f .name .start + f .name .len ≤ length run) × (c .at + (f .name .len + 19) ≤ length out)
   unfolding after
   roomy out t small =
@@ -68,6 +68,6 @@ module _ (c : Pen) (f : FieldDescription) (run : List ℕ) {able : Bool} {next :
       let v : c .writing && (passed (c .writing) f run && leb (after c f) (length out)) ≡ false = (λ j. w j && u j) in
       rw v refl
 
-pub kept : (c : Pen) (f : FieldDescription) (run out : List ℕ) → c .writing ≡ false → out ≡ stepOut c f run out
+pub kept : (c : Pass) (f : FieldDescription) (run out : List ℕ) → c .writing ≡ false → out ≡ stepOut c f run out
 unfolding stepOut
 kept c f run out w = rw w refl

@@ -1,4 +1,4 @@
 pub mod Again
-pub mod Answers
 pub mod Fields
+pub mod Roomy
 pub mod Whole

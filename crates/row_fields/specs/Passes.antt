@@ -9,11 +9,11 @@ use Rattle.protocol.specs.declared.Encoded.{Encoded}
 use Rattle.protocol.specs.declared.data.FieldDescription.{FieldDescription}
 use Rattle.protocol.specs.Bytes.{be, noZero}
 use Rattle.protocol.specs.Encode.{rowFieldGiven}
-use Rattle.protocol.specs.Fields.{itemBytes}
+use Rattle.protocol.specs.Fields.{itemBytes, most, signedCount}
 use Rattle.protocol.specs.Kinds.{large, rowDescription, rowField, typed}
 use Rattle.protocol.specs.WellFormed.{header}
-use Rattle.writers.specs.Writing.{verdictOf, write}
-use Rattle.row_fields.specs.declared.Pen.{Pen}
+use Rattle.writers.specs.Writing.{largest, verdictOf, write}
+use Rattle.row_fields.specs.declared.Pass.{Pass}
 
 -- a field's name stands in the run and, for the pass that measures, has no zero byte
 unfoldable pub passed : Bool → FieldDescription → List ℕ → Bool
@@ -29,43 +29,43 @@ abbrev pub numbers : ℕ → ℕ → ℕ → ℕ → ℕ → ℕ → List ℕ
 numbers table column type size modifier format = be 4 table ++ (be 2 column ++ (be 4 type ++ (be 2 size ++ (be 4 modifier ++ (be 2 format ++ [])))))
 
 -- the place after a field; it stops at the largest number
-unfoldable pub after : Pen → FieldDescription → ℕ
-after c f = min (c .at + (f .name .len + 19)) 18446744073709551615
+unfoldable pub after : Pass → FieldDescription → ℕ
+after c f = min (c .at + (f .name .len + 19)) largest
 
-unfoldable pub stepPen : Pen → FieldDescription → List ℕ → Pen
-stepPen c f run = record { at = after c f; ok = c .ok && passed (c .writing) f run; writing = c .writing }
+unfoldable pub stepPass : Pass → FieldDescription → List ℕ → Pass
+stepPass c f run = record { at = after c f; ok = c .ok && passed (c .writing) f run; writing = c .writing }
 
--- a field is written where the pen writes, its name stands in the run and there is room
-unfoldable pub stepOut : Pen → FieldDescription → List ℕ → List ℕ → List ℕ
+-- a field is written where the pass writes, its name stands in the run and there is room
+unfoldable pub stepOut : Pass → FieldDescription → List ℕ → List ℕ → List ℕ
 stepOut c f run out =
     cond (c .writing && (passed (c .writing) f run && leb (after c f) (length out)))
     (write out (c .at) (itemBytes rowField (rowFieldGiven f run)))
     out
 
-unfoldable pub allPen : List FieldDescription → List ℕ → Pen → Pen
-allPen [] run c = c
-allPen (f ∷ fs) run c = allPen fs run (stepPen c f run)
+unfoldable pub allPass : List FieldDescription → List ℕ → Pass → Pass
+allPass [] run c = c
+allPass (f ∷ fs) run c = allPass fs run (stepPass c f run)
 
-unfoldable pub allOut : List FieldDescription → List ℕ → List ℕ → Pen → List ℕ
+unfoldable pub allOut : List FieldDescription → List ℕ → List ℕ → Pass → List ℕ
 allOut [] run out c = out
-allOut (f ∷ fs) run out c = allOut fs run (stepOut c f run out) (stepPen c f run)
+allOut (f ∷ fs) run out c = allOut fs run (stepOut c f run out) (stepPass c f run)
 
 -- ---- the whole frame
 
--- the pen of the pass that measures
-abbrev pub blank : Pen
-blank = record { at = 0; ok = true; writing = false }
+-- the pass that measures, at its start
+abbrev pub measuringPass : Pass
+measuringPass = record { at = 0; ok = true; writing = false }
 
 -- the answer to what was measured of `count` fields; six bytes of the length come before the fields
-abbrev pub answered : Pen → ℕ → ℕ → Encoded
-answered c count room = verdictOf (leb count 32767 && c .ok) large (min (c .at + 6) 18446744073709551615) 1 room
+abbrev pub answered : Pass → ℕ → ℕ → Encoded
+answered c count room = verdictOf (leb count (most signedCount) && c .ok) large (min (c .at + 6) largest) 1 room
 
 -- the head and the count, where there is room for the frame
 unfoldable pub begun : Encoded → ℕ → List ℕ → List ℕ
 begun (N.Done n) count out = write (write out 0 (header typed (rowDescription .tag) (n - 5))) 5 (be 2 count)
 begun (N.Refused number place) count out = out
 
--- the pen of the pass that writes
-unfoldable pub writer : Encoded → Pen
-writer (N.Done n) = record { at = 7; ok = true; writing = true }
-writer (N.Refused number place) = record { at = 7; ok = true; writing = false }
+-- the pass that writes, at its start
+unfoldable pub writingPass : Encoded → Pass
+writingPass (N.Done n) = record { at = 7; ok = true; writing = true }
+writingPass (N.Refused number place) = record { at = 7; ok = true; writing = false }

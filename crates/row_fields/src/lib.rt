@@ -13,6 +13,7 @@ use protocol::Encoded;
 use protocol::data::FieldDescription;
 use protocol::data::MESSAGE_TYPE_BYTE_ROW_DESCRITION;
 use protocol::kinds::LARGE;
+use protocol::kinds::MOST_SIGNED;
 use writers::bits16;
 use writers::bits32;
 use writers::no_zero;
@@ -24,7 +25,7 @@ use writers::put_text;
 use writers::verdict;
 
 // How far a pass is: the next byte's place, whether every name so far can be written, and whether the pass writes.
-pub struct Pen {
+pub struct Pass {
     pub at: usize,
     pub ok: bool,
     pub writing: bool,
@@ -88,13 +89,13 @@ fn put_field(f: FieldDescription, run: &[u8], out: &mut [u8], at: usize) -> usiz
 }
 
 // One field's turn in a pass: it is measured, and written where the pass writes.
-fn step(c: Pen, f: FieldDescription, run: &[u8], out: &mut [u8]) -> Pen
-    ensures { λ r. ⌜ (r ≡ P.stepPen c f (now (run .entry))) × (now (out .exit) ≡ P.stepOut c f (now (run .entry)) (now (out .entry))) ⌝ }
+fn step(c: Pass, f: FieldDescription, run: &[u8], out: &mut [u8]) -> Pass
+    ensures { λ r. ⌜ (r ≡ P.stepPass c f (now (run .entry))) × (now (out .exit) ≡ P.stepOut c f (now (run .entry)) (now (out .entry))) ⌝ }
 {
     let after = plus(c.at, plus(f.name.len, 19));
     if c.writing {
         let able = name_able(f, run, c.writing);
-        let next = Pen {
+        let next = Pass {
             at: after,
             ok: c.ok & able,
             writing: c.writing,
@@ -106,7 +107,7 @@ fn step(c: Pen, f: FieldDescription, run: &[u8], out: &mut [u8]) -> Pen
         return next;
     }
     let able = name_able(f, run, c.writing);
-    Pen {
+    Pass {
         at: after,
         ok: c.ok & able,
         writing: c.writing,
@@ -114,8 +115,8 @@ fn step(c: Pen, f: FieldDescription, run: &[u8], out: &mut [u8]) -> Pen
 }
 
 // A pass over all fields. Walked by hand: a lent slice of structs is read.
-pub fn each(fields: &[FieldDescription], run: &[u8], out: &mut [u8], c: Pen) -> Pen
-    ensures { λ r. ⌜ (r ≡ P.allPen (now (fields .entry)) (now (run .entry)) c)
+pub fn each(fields: &[FieldDescription], run: &[u8], out: &mut [u8], c: Pass) -> Pass
+    ensures { λ r. ⌜ (r ≡ P.allPass (now (fields .entry)) (now (run .entry)) c)
         × (now (out .exit) ≡ P.allOut (now (fields .entry)) (now (run .entry)) (now (out .entry)) c) ⌝ }
 {
     let mut i: usize = 0;
@@ -128,10 +129,10 @@ pub fn each(fields: &[FieldDescription], run: &[u8], out: &mut [u8], c: Pen) -> 
 }
 
 // The answer to what was measured; where it is a number of bytes, the frame's head and the count are written.
-pub fn begin(measured: Pen, count: usize, out: &mut [u8]) -> Encoded
+pub fn begin(measured: Pass, count: usize, out: &mut [u8]) -> Encoded
     ensures { λ r. ⌜ (r ≡ P.answered measured count (length (now (out .entry)))) × (now (out .exit) ≡ P.begun r count (now (out .entry))) ⌝ }
 {
-    let able = (count <= 32767) & measured.ok;
+    let able = (count <= MOST_SIGNED) & measured.ok;
     let size = plus(measured.at, 6);
     let r = verdict(able, LARGE, size, out.len());
     let Encoded::Done(n) = r else {
@@ -142,17 +143,17 @@ pub fn begin(measured: Pen, count: usize, out: &mut [u8]) -> Encoded
     r
 }
 
-// The pen of the pass that writes: it writes where the answer is a number of bytes.
-pub fn writer(r: Encoded) -> Pen
-    ensures { λ p. ⌜ p ≡ P.writer r ⌝ }
+// The second pass at its start: it writes where the answer is a number of bytes.
+pub fn writing_pass(r: Encoded) -> Pass
+    ensures { λ p. ⌜ p ≡ P.writingPass r ⌝ }
 {
     match r {
-        Encoded::Done(n) => Pen {
+        Encoded::Done(n) => Pass {
             at: 7,
             ok: true,
             writing: true,
         },
-        Encoded::Refused(number, place) => Pen {
+        Encoded::Refused(number, place) => Pass {
             at: 7,
             ok: true,
             writing: false,

@@ -2,11 +2,14 @@
 // refusal's place, which is always 0.
 use protocol::Encoded;
 
+const LARGEST: usize = 18446744073709551615;
+
+// A refusal's number is a byte.
 fn encoded(answer: usize) -> Encoded {
-    if answer < 18446744073709551360 {
+    if answer < LARGEST - 255 {
         return Encoded::Done(answer);
     }
-    Encoded::Refused((18446744073709551615 - answer) as u8, 0)
+    Encoded::Refused((LARGEST - answer) as u8, 0)
 }
 
 pub fn plain(

@@ -5,6 +5,7 @@ use crate::case;
 use crate::case::Case;
 use crate::case::ROOM;
 use crate::direct;
+use crate::fields;
 use crate::long;
 use crate::text::write_answer;
 use protocol::Encoded;
@@ -51,10 +52,10 @@ fn first_formats(formats: &[i16], count: usize) -> &[i16] {
 fn row_description(case: Case, run: &[u8], out: &mut [u8]) -> Encoded {
     let first = field(case.start, case.len);
     if case.size_count == 4 {
-        return encode::data::row_description_of_one([first], run, out);
+        return fields::description_of_one([first], run, out);
     }
     let second = field(case.next_start, case.next_len);
-    encode::data::row_description_of_two([first, second], run, out)
+    fields::description_of_two([first, second], run, out)
 }
 
 fn plain(

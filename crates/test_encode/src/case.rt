@@ -1,10 +1,13 @@
 // A case, read letter by letter: a kind's name, sizes, and sections, each a letter and its numbers. What has another form is malformed.
 
-// The longest output, and the most bytes that are given: more than the largest frame.
-pub const ROOM: usize = 1048580;
+use protocol::kinds::LARGE_FRAME;
+use protocol::kinds::MOST_SIGNED;
 
-// The most numbers that are given.
-pub const MANY: usize = 32768;
+// The longest output, and the most bytes that are given: more than the largest frame.
+pub const ROOM: usize = LARGE_FRAME + 3;
+
+// The most numbers that are given: one more than a list can have.
+pub const MANY: usize = MOST_SIGNED + 1;
 
 pub const ROW_DESCRIPTION: usize = 17;
 

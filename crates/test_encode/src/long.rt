@@ -1,6 +1,9 @@
 // Cases in which a byte is given many times.
+ghost use Prim.Native.Nat.{_+_};
 ghost use mathlib.Core.Path.{_≡_};
 ghost use lib.ListN.{length};
+ghost use Rattle.protocol.specs.Fields.{most, signedCount};
+ghost use Rattle.protocol.specs.Kinds.{largeFrame};
 use crate::calls;
 use crate::case;
 use crate::case::Case;
@@ -10,25 +13,25 @@ use protocol::Encoded;
 
 // The length is said, so that a part can be lent.
 pub fn full(byte: u8) -> [u8; ROOM]
-    ensures { λ r. ⌜ 1048580 ≡ length r ⌝ }
+    ensures { λ r. ⌜ 3 + largeFrame ≡ length r ⌝ }
 {
     [byte; ROOM]
 }
 
 fn full_words(word: u32) -> [u32; MANY]
-    ensures { λ r. ⌜ 32768 ≡ length r ⌝ }
+    ensures { λ r. ⌜ 1 + most signedCount ≡ length r ⌝ }
 {
     [word; MANY]
 }
 
 fn full_numbers(number: i32) -> [i32; MANY]
-    ensures { λ r. ⌜ 32768 ≡ length r ⌝ }
+    ensures { λ r. ⌜ 1 + most signedCount ≡ length r ⌝ }
 {
     [number; MANY]
 }
 
 fn full_formats(format: i16) -> [i16; MANY]
-    ensures { λ r. ⌜ 32768 ≡ length r ⌝ }
+    ensures { λ r. ⌜ 1 + most signedCount ≡ length r ⌝ }
 {
     [format; MANY]
 }

@@ -4,6 +4,7 @@ mod boundary;
 mod calls;
 mod case;
 mod direct;
+mod fields;
 mod long;
 mod text;
 

@@ -13,7 +13,7 @@ use base.Logic.{SProp, ent, sep, emp, via, fst∗, snd∗, exE, id⊢}
 use base.Fml.{Lft, Share, Fml, ftrue, flft}
 use prog.Memory.{Memory}
 use prog.Routine.{Env, Routine}
-use prog.Wp.{Heap, Calls, Loops, WpFn, Tables}
+use prog.Wp.{Heap, Calls, Loops, WpFn, Tables, Closed}
 use prog.Model.{Model}
 use ghost.Atoms.{Atoms, sem}
 use contract.Lifetimes.{Lfts}
@@ -35,7 +35,7 @@ use denote.Triple.Statement.{Contract, Triple}
 use denote.Triple.Call.{calls-at}
 use denote.Triple.Entry.{Vals, onEntry}
 use denote.Triple.Spec.{Meets, tripleOf}
-use denote.Triple.Table.{cited}
+use denote.Triple.Table.{entered, cited}
 use denote.Triple.Walked.{says, Stays, stay-none, stay-none-slice, walkOf, goes-none, goes-none-slice, Walks, ends-at, walked, walk-meets}
 use denote.Exit.{yes}
 use denote.Triple.Clauses.{closing, ensured, lasts}
@@ -208,11 +208,13 @@ module _ (callee : Name) (τ : Ty) (R : RattleType) (Claim : List ℕ → ℕ �
 
 -- `meets` over the machine's tables, with what is proved of `new` and `to`
 module _ (callee : Name) (τ : Ty) (R : RattleType) (Claim : List ℕ → ℕ → R .Denot → Type 0) {M : Type 1} (𝓤 : URA M) (H : Heap 𝓤) (𝓜 : Model 𝓤 H) (𝓖 : GhostRules 𝓤 H) (𝓡 : Running 𝓤 H 𝓜) (typed : Typed τ R) where
-  pub through-meets : (env : Env) → env new-def.name ≡ new-def.routine → env to-def.name ≡ to-def.routine → Triple 𝓤 (tables 𝓤 H 𝓜 𝓡 env .C callee) (Reads 𝓤 H (𝓖 .A) R Claim)
-      → Meets 𝓤 H (𝓖 .A) (calledEnded R .signature) (WpFn 𝓤 H (tables 𝓤 H 𝓜 𝓡 env .C) (tables 𝓤 H 𝓜 𝓡 env .Λ) (through callee τ)) (closing 𝓤 H (𝓖 .A) (calledEnded R) (calledClauses R Claim 𝓤))
+  pub through-entered : (env : Env) (name : Name) → Closed 𝓤 H (tables 𝓤 H 𝓜 𝓡 env .C) (tables 𝓤 H 𝓜 𝓡 env .Λ) name (through callee τ) → env new-def.name ≡ new-def.routine → env to-def.name ≡ to-def.routine
+      → (routine : Routine) → env callee ≡ routine → Triple 𝓤 (𝓡 .run routine) (Reads 𝓤 H (𝓖 .A) R Claim)
+      → Triple 𝓤 (tables 𝓤 H 𝓜 𝓡 env .C name) (tripleOf 𝓤 H (𝓖 .A) (calledEnded R .signature) (closing 𝓤 H (𝓖 .A) (calledEnded R) (calledClauses R Claim 𝓤)))
   unfolding tablesOf
-  through-meets env is-new is-to known =
-      meets callee τ R Claim 𝓤 H (𝓖 .A) (givenOf 𝓤 H 𝓜 𝓖) (𝓜 .mem) (𝓡 .run) typed (tablesOf 𝓤 H 𝓜 (tables 𝓤 H 𝓜 𝓡 env))
+  through-entered env name closed is-new is-to routine is met =
+      entered 𝓤 H (tripleOf 𝓤 H (𝓖 .A) (calledEnded R .signature) (closing 𝓤 H (𝓖 .A) (calledEnded R) (calledClauses R Claim 𝓤))) (tables 𝓤 H 𝓜 𝓡 env .C) (tables 𝓤 H 𝓜 𝓡 env .Λ) name (through callee τ) closed
+      (meets callee τ R Claim 𝓤 H (𝓖 .A) (givenOf 𝓤 H 𝓜 𝓖) (𝓜 .mem) (𝓡 .run) typed (tablesOf 𝓤 H 𝓜 (tables 𝓤 H 𝓜 𝓡 env))
       (cited 𝓤 H (New 𝓤 H (𝓖 .A) (𝓜 .mem) (𝓡 .run)) 𝓜 𝓡 env new-def.name new-def.routine is-new (new-thm.met 𝓤 H 𝓜 𝓖 𝓡))
       (cited 𝓤 H (To 𝓤 H (𝓖 .A) (𝓜 .mem) (𝓡 .run)) 𝓜 𝓡 env to-def.name to-def.routine is-to (to-thm.met 𝓤 H 𝓜 𝓖 𝓡))
-      known
+      (cited 𝓤 H (Reads 𝓤 H (𝓖 .A) R Claim) 𝓜 𝓡 env callee routine is met))

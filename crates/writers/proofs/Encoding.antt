@@ -10,13 +10,13 @@ use lib.Dec.{leb, ltb}
 use lib.ListN.{length, drop, length-append}
 use Rattle.protocol.specs.declared.Encoded.the-variants as N
 use Rattle.protocol.specs.declared.Encoded.{Encoded}
-use Rattle.protocol.specs.Bytes.{be}
 use Rattle.protocol.specs.Encode.{encodedBy, writtenBy, Encodes}
 use Rattle.protocol.specs.Kinds.{Envelope, typed, untyped, bare, Kind, Mode, largeFrame}
 use Rattle.protocol.specs.Refusals.{lengthAboveLimit, outputTooShort, notRepresentable}
 use Rattle.protocol.specs.Rules.{rulesOf}
 use Rattle.protocol.specs.WellFormed.{Contents, bodyBytes, lengthOf, header, bodyStart, frame, allAble}
-use Rattle.writers.specs.Writing.{write, Wrote, Put, Framed, verdictOf}
+use Rattle.protocol.proofs.Basics.{refused-done, first-chosen, second-chosen, length-header}
+use Rattle.writers.specs.Writing.{write, Wrote, Put, WroteFrame, largest, verdictOf}
 use Rattle.writers.proofs.Laws.{_then_, front}
 use Rattle.writers.proofs.Puts.{Fits, same-size, headed}
 
@@ -27,12 +27,6 @@ abbrev pub uncounted : Envelope → ℕ
 uncounted typed = 1
 uncounted untyped = 0
 uncounted bare = 0
-
-length-header : (e : Envelope) (tag n : ℕ) → length (header e tag n) ≡ bodyStart e
-unfolding header be
-length-header typed tag n = refl
-length-header untyped tag n = refl
-length-header bare tag n = refl
 
 start-of : (e : Envelope) (n : ℕ) → bodyStart e + n ≡ lengthOf e n + uncounted e
 start-of typed n = omega arith
@@ -53,7 +47,7 @@ only e = cc
 -- the head, for a frame of n bytes, and then the body
 pub framed : {d mid left : List ℕ} {n at next size : ℕ} (k : Kind) (c : Contents k)
     → Wrote d 0 (header typed (k .tag) (n - 5)) 5 mid at → Wrote mid at (bodyBytes k c) size left next → n ≡ 5 + size
-    → Framed typed k (some c) d left
+    → WroteFrame typed k (some c) d left
 unfolding frame
 framed {d} {mid} {left} {n} k c h b e =
     let f : length (bodyBytes k c) ≡ n - 5 = omega (arith, b .size) in
@@ -63,30 +57,30 @@ framed {d} {mid} {left} {n} k c h b e =
 -- the head and then the body, by writers that look for their room
 pub framed-put : {d mid left : List ℕ} {n at next size : ℕ} (k : Kind) (c : Contents k)
     → Put (leb 5 n && leb n largeFrame) d 0 (header typed (k .tag) (n - 5)) 5 mid at → Fits mid at (bodyBytes k c) size left next → n ≡ 5 + size
-    → n ≤ length d → n ≤ largeFrame → Framed typed k (some c) d left
+    → n ≤ length d → n ≤ largeFrame → WroteFrame typed k (some c) d left
 framed-put k c head body e room small =
     let h = headed head (omega arith) room small in
     framed k c h (body (omega (arith, h .place, same-size h))) e
 
 -- in any envelope, head and body at once
-pub framed-whole : {d left : List ℕ} {e : Envelope} {n next : ℕ} (k : Kind) (c : Contents k) → Wrote d 0 (frame e k c) n left next → Framed e k (some c) d left
+pub framed-whole : {d left : List ℕ} {e : Envelope} {n next : ℕ} (k : Kind) (c : Contents k) → Wrote d 0 (frame e k c) n left next → WroteFrame e k (some c) d left
 framed-whole {d} {left} {e} k c w = record { bytes = λ x is. w .bytes ∙ ap (λ (y : Contents k). write d 0 (frame e k y)) (only is) }
 
 -- ---- the verdict
 
 -- a size that stopped at the largest number gets the answer of the size itself
-cut : (able : Bool) (limit size more room : ℕ) → limit < 18446744073709551615
-    → verdictOf able limit (min size 18446744073709551615) more room ≡ verdictOf able limit size more room
+cut : (able : Bool) (limit size more room : ℕ) → limit < largest
+    → verdictOf able limit (min size largest) more room ≡ verdictOf able limit size more room
 unfolding verdictOf
 cut able limit size more room low = by (ltb limit size) refl
   where
-    by : (t : Bool) → ltb limit size ≡ t → verdictOf able limit (min size 18446744073709551615) more room ≡ verdictOf able limit size more room
+    by : (t : Bool) → ltb limit size ≡ t → verdictOf able limit (min size largest) more room ≡ verdictOf able limit size more room
     by true e =
         let h : limit < size = ltb-true _ _ e in
-        rw (e, lt-ltb limit (min size 18446744073709551615) (omega arith)) refl
+        rw (e, lt-ltb limit (min size largest) (omega arith)) refl
     by false e =
         let h : size ≤ limit = ltb-false _ _ e in
-        let k : min size 18446744073709551615 ≡ size = omega arith in
+        let k : min size largest ≡ size = omega arith in
         rw k refl
 
 -- whether arguments can be written at all
@@ -98,10 +92,10 @@ ableOf m k (some c) = allAble (rulesOf (m .mode)) k c
 pub record Judged (m : Mode) (k : Kind) (given : Option (Contents k)) (room : ℕ) (r : Encoded) : Type 0 where
   pub answer : r ≡ encodedBy m k given room
 
-module _ (m : Mode) (k : Kind) (low : k .limit < 18446744073709551615) where
+module _ (m : Mode) (k : Kind) (low : k .limit < largest) where
   -- of a content: the measured size counts only where the content can be written
   judged-by : (c : Contents k) {size room : ℕ} {r : Encoded} (able : Bool)
-      → allAble (rulesOf (m .mode)) k c ≡ able → (able ≡ true → size ≡ min (lengthOf (m .envelope) (length (bodyBytes k c))) 18446744073709551615)
+      → allAble (rulesOf (m .mode)) k c ≡ able → (able ≡ true → size ≡ min (lengthOf (m .envelope) (length (bodyBytes k c))) largest)
       → r ≡ verdictOf able (k .limit) size (uncounted (m .envelope)) room → Judged m k (some c) room r
   unfolding encodedBy verdictOf
   judged-by c {size} {room} {r} false same sized v = record { answer = v ∙ rw same refl }
@@ -113,14 +107,14 @@ module _ (m : Mode) (k : Kind) (low : k .limit < 18446744073709551615) where
 
   judged-some : (c : Contents k) {able : Bool} {size room : ℕ} {r : Encoded}
       → able ≡ allAble (rulesOf (m .mode)) k c
-      → (able ≡ true → size ≡ min (lengthOf (m .envelope) (length (bodyBytes k c))) 18446744073709551615)
+      → (able ≡ true → size ≡ min (lengthOf (m .envelope) (length (bodyBytes k c))) largest)
       → r ≡ verdictOf able (k .limit) size (uncounted (m .envelope)) room → Judged m k (some c) room r
   judged-some c {able} same sized v = judged-by c able (sym same) sized v
 
   -- of arguments that may be no content
   pub judged-given : (given : Option (Contents k)) {able : Bool} {size room : ℕ} {r : Encoded}
       → able ≡ ableOf m k given
-      → ((c : Contents k) → given ≡ some c → able ≡ true → size ≡ min (lengthOf (m .envelope) (length (bodyBytes k c))) 18446744073709551615)
+      → ((c : Contents k) → given ≡ some c → able ≡ true → size ≡ min (lengthOf (m .envelope) (length (bodyBytes k c))) largest)
       → r ≡ verdictOf able (k .limit) size (uncounted (m .envelope)) room → Judged m k given room r
   unfolding ableOf encodedBy verdictOf
   judged-given none same sized v = record { answer = v ∙ rw same refl }
@@ -135,13 +129,15 @@ pub record Room (can : Bool) (limit size room n : ℕ) : Type 0 where
   pub small : n ≤ limit
   pub fits : n ≤ room
 
-pub room-by : (limit size whole room n : ℕ) (able a b : Bool) → ltb limit size ≡ a → ltb room whole ≡ b
-    → cond able (cond a (N.Refused lengthAboveLimit 0) (cond b (N.Refused outputTooShort 0) (N.Done whole))) (N.Refused notRepresentable 0) ≡ N.Done n
+pub room-by : (limit size whole room n : ℕ) (able : Bool)
+    → cond able (cond (ltb limit size) (N.Refused lengthAboveLimit 0) (cond (ltb room whole) (N.Refused outputTooShort 0) (N.Done whole))) (N.Refused notRepresentable 0) ≡ N.Done n
     → (able ≡ true) × (n ≡ whole) × (size ≤ limit) × (whole ≤ room)
-room-by limit size whole room n true false false ea eb e = (refl, cc, ltb-false _ _ ea, ltb-false _ _ eb)
-room-by limit size whole room n true true b ea eb e = let z : _≡_ {A = ℕ} 0 1 = cc in absurd (omega arith)
-room-by limit size whole room n true false true ea eb e = let z : _≡_ {A = ℕ} 0 1 = cc in absurd (omega arith)
-room-by limit size whole room n false a b ea eb e = let z : _≡_ {A = ℕ} 0 1 = cc in absurd (omega arith)
+room-by limit size whole room n able e =
+    let a = first-chosen able refused-done e in
+    let b = second-chosen (ltb limit size) refused-done (a .1) in
+    let c = second-chosen (ltb room whole) refused-done (b .1) in
+    let q = c .1 in
+    (a .0, cc, ltb-false _ _ (b .0), ltb-false _ _ (c .0))
 
 -- what is written is a content
 pub record Written (m : Mode) (k : Kind) (given : Option (Contents k)) (room n : ℕ) : Type 0 where
@@ -154,15 +150,12 @@ pub record Written (m : Mode) (k : Kind) (given : Option (Contents k)) (room n :
 
 pub writtenOf : (m : Mode) (k : Kind) (given : Option (Contents k)) {room n : ℕ} {r : Encoded} → Judged m k given room r → r ≡ N.Done n → Written m k given room n
 unfolding encodedBy ableOf
-writtenOf m k none {room} {n} v is =
-    let e : N.Refused notRepresentable 0 ≡ N.Done n = sym (v .answer) ∙ is in
-    let z : _≡_ {A = ℕ} 0 1 = cc in
-    absurd (omega arith)
+writtenOf m k none v is = absurd (refused-done (sym (v .answer) ∙ is))
 writtenOf m k (some c) {room} {n} v is =
     let size = lengthOf (m .envelope) (length (bodyBytes k c)) in
     let whole = length (frame (m .envelope) k c) in
     let able = allAble (rulesOf (m .mode)) k c in
-    let h = room-by (k .limit) size whole room n able (ltb (k .limit) size) (ltb room whole) refl refl (sym (v .answer) ∙ is) in
+    let h = room-by (k .limit) size whole room n able (sym (v .answer) ∙ is) in
     record { it = c; is = refl; able = h .0; whole = h .1 ∙ length-frame (m .envelope) k c; small = h .2; fits = omega (arith, h .1, h .3) }
 
 -- ---- the two returns of an encoder
@@ -177,7 +170,7 @@ refused {m} {k} {given} {out} {number} {place} {r} v is = record { answer = v .a
     by (some c) = refl
 
 pub done : {m : Mode} {k : Kind} {given : Option (Contents k)} {out left : List ℕ} {n : ℕ} {r : Encoded}
-    → Judged m k given (length out) r → r ≡ N.Done n → Framed (m .envelope) k given out left → Encodes m k given out (N.Done n) left
+    → Judged m k given (length out) r → r ≡ N.Done n → WroteFrame (m .envelope) k given out left → Encodes m k given out (N.Done n) left
 unfolding writtenBy
 done {m} {k} {given} {out} {left} {n} v is w =
     let h = writtenOf m k given v is in
@@ -222,8 +215,8 @@ typed-is : (e : Envelope) (n : ℕ) → e ≡ typed → (lengthOf e n ≡ 4 + n)
 typed-is e n is = rw is (refl, refl)
 
 module _ {m : Mode} {k : Kind} {given : Option (Contents k)} {limit : ℕ} {able : Bool} {size : ℕ} (x : Measured m k given limit able size) where
-  pub judged : {able′ : Bool} {size′ room : ℕ} {r : Encoded} → limit < 18446744073709551615 → able′ ≡ able
-      → (able ≡ true → size′ ≡ min (4 + size) 18446744073709551615) → r ≡ verdictOf able′ limit size′ 1 room → Judged m k given room r
+  pub judged : {able′ : Bool} {size′ room : ℕ} {r : Encoded} → limit < largest → able′ ≡ able
+      → (able ≡ true → size′ ≡ min (4 + size) largest) → r ≡ verdictOf able′ limit size′ 1 room → Judged m k given room r
   judged {able′} {size′} {room} {r} low same sized v =
       judged-given m k (omega (arith, low, x .limit)) given {size = size′} (same ∙ sym (x .able))
       (λ c is t. rw (x .envelope, x .size c is) (sized (sym same ∙ t)))
@@ -237,5 +230,5 @@ module _ {m : Mode} {k : Kind} {given : Option (Contents k)} {limit : ℕ} {able
       record { able = sym (x .able) ∙ h .able; whole = w; small = omega (arith, w, h .small, t .0, x .limit, x .size (h .it) (h .is)); fits = h .fits }
 
   pub finished : {out left : List ℕ} {n : ℕ} {r : Encoded}
-      → Judged m k given (length out) r → r ≡ N.Done n → Framed typed k given out left → Encodes m k given out (N.Done n) left
+      → Judged m k given (length out) r → r ≡ N.Done n → WroteFrame typed k given out left → Encodes m k given out (N.Done n) left
   finished v is w = done v is (rw (x .envelope) w)

@@ -1,6 +1,6 @@
 -- An error's fields, one after the other: when codes, lengths and bytes are some, and what is written of them.
 use Prim.Native.Nat.{ℕ, suc, _+_, _*_, _-_, _%_, _≤_, _<_}
-use mathlib.Core.Bool.{Bool, true, false, not, _&&_}
+use mathlib.Core.Bool.{Bool, true, false, not, _&&_, and-true, and-false, true≢false}
 use mathlib.Core.List.{List, [], _∷_, _++_, append-nil}
 use mathlib.Core.Option.{some}
 use mathlib.Core.Path.{_≡_, refl, ap, _∙_, sym}
@@ -15,10 +15,10 @@ use Rattle.protocol.specs.Each.{ableEach, bytesOfEach}
 use Rattle.protocol.specs.Encode.{errorFieldsGiven}
 use Rattle.protocol.specs.Fields.{ItemContent, ended, able, bytes, atomAble, atomBytes, itemAble, itemBytes, itemsAble, itemsBytes, zeroFirst, noneEnds}
 use Rattle.protocol.specs.Kinds.{errorField}
+use Rattle.protocol.proofs.Basics.{none-some, and-left, and-right}
 use Rattle.writers.specs.Given.{isSome}
 use Rattle.writers.proofs.GivenLaws.{first, some-first}
 use Rattle.writers.proofs.Laws.{drop-more, drop-end}
-use Rattle.writers.proofs.Lists.{and-true, and-false, and-left, and-right}
 
 -- ---- when there are fields
 
@@ -39,7 +39,7 @@ errors-many cs ns bs e = by (eqb (length cs) (length ns)) refl
   where
     by : (t : Bool) → eqb (length cs) (length ns) ≡ t → length cs ≡ length ns
     by true q = eqb-true (length cs) (length ns) q
-    by false q = let f = sym e ∙ errors-differ cs ns bs (eqb-false (length cs) (length ns) q) in let z : _≡_ {A = ℕ} 0 1 = cc in absurd (omega arith)
+    by false q = absurd (true≢false (sym e ∙ errors-differ cs ns bs (eqb-false (length cs) (length ns) q)))
 
 -- at the code and the length that the code reads; joined is passed up to j
 module _ (cs ns bs : List ℕ) (i j : ℕ) (h : i < length ns) (same : length cs ≡ length ns) where
@@ -106,9 +106,9 @@ pub errors-are : (cs ns bs : List ℕ) (fs : List (ItemContent errorField)) → 
 unfolding errorFieldsGiven errorsBytes itemsBytes itemBytes bytesOfEach atomBytes be zeroFirst noneEnds noZero itemsAble itemAble ableEach atomAble
 errors-are [] [] [] fs small e =
     let q : [] ≡ fs = cc in record { written = rw (← q) refl; size = refl; codes = rw (← q) refl; strings = λ rules. rw (← q) refl }
-errors-are [] [] (b ∷ bs) fs small e = let z : _≡_ {A = ℕ} 0 1 = cc in absurd (omega arith)
-errors-are [] (n ∷ ns) bs fs small e = let z : _≡_ {A = ℕ} 0 1 = cc in absurd (omega arith)
-errors-are (c ∷ cs) [] bs fs small e = let z : _≡_ {A = ℕ} 0 1 = cc in absurd (omega arith)
+errors-are [] [] (b ∷ bs) fs small e = absurd (none-some e)
+errors-are [] (n ∷ ns) bs fs small e = absurd (none-some e)
+errors-are (c ∷ cs) [] bs fs small e = absurd (none-some e)
 errors-are (c ∷ cs) (n ∷ ns) bs fs small e =
     let f = first (c, (take n bs, tt)) (leb n (length bs)) (errorFieldsGiven cs ns (drop n bs)) fs e in
     let v = errors-are cs ns (drop n bs) (f .rest) (λ i. small (suc i)) (f .was) in

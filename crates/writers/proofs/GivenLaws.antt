@@ -4,14 +4,14 @@ use mathlib.Core.Bool.{Bool, true, false, cond, _&&_}
 use mathlib.Core.List.{List, _∷_}
 use mathlib.Core.Option.{Option, some, none, Option·map}
 use mathlib.Core.Path.{_≡_, refl, sym}
-use native.Mathlib.Omega.{arith}
 use lib.ListN.{length}
 use Rattle.protocol.specs.Encode.{oneBefore}
 use Rattle.protocol.specs.Kinds.{typed, Kind, Mode}
 use Rattle.protocol.specs.Rules.{rulesOf}
 use Rattle.protocol.specs.WellFormed.{Contents, bodyBytes, allAble}
+use Rattle.protocol.proofs.Basics.{none-some}
 use Rattle.writers.specs.Given.{isSome}
-use Rattle.writers.specs.Writing.{Framed}
+use Rattle.writers.specs.Writing.{WroteFrame}
 use Rattle.writers.proofs.Encoding.{ableOf, Measured, measured}
 
 -- ---- a first item, behind a test
@@ -24,8 +24,8 @@ pub record First {A : Type 0} (x : A) (t : Bool) (o : Option (List A)) (xs : Lis
 
 pub first : {A : Type 0} (x : A) (t : Bool) (o : Option (List A)) (xs : List A) → cond t (oneBefore x o) none ≡ some xs → First x t o xs
 first x true (some rest) xs e = let q : x ∷ rest ≡ xs = cc in record { passed = refl; rest = rest; was = refl; is = sym q }
-first x true none xs e = let z : _≡_ {A = ℕ} 0 1 = cc in absurd (omega arith)
-first x false o xs e = let z : _≡_ {A = ℕ} 0 1 = cc in absurd (omega arith)
+first x true none xs e = absurd (none-some e)
+first x false o xs e = absurd (none-some e)
 
 pub some-first : {A : Type 0} (x : A) (t : Bool) (o : Option (List A)) → isSome (cond t (oneBefore x o) none) ≡ t && isSome o
 some-first x true (some rest) = refl
@@ -36,8 +36,8 @@ some-first x false o = refl
 
 module _ {A : Type 0} (k : Kind) (body : A → Contents k) where
   pub framed-given : {d left : List ℕ} (given : Option A)
-      → ((x : A) → given ≡ some x → Framed typed k (some (body x)) d left) → Framed typed k (Option·map body given) d left
-  framed-given none w = record { bytes = λ c is. let z : _≡_ {A = ℕ} 0 1 = cc in absurd (omega arith) }
+      → ((x : A) → given ≡ some x → WroteFrame typed k (some (body x)) d left) → WroteFrame typed k (Option·map body given) d left
+  framed-given none w = record { bytes = λ c is. absurd (none-some is) }
   framed-given (some x) w = w x refl
 
   pub measured-given : (m : Mode) (given : Option A) {limit : ℕ} {able : Bool} {size : ℕ} → m .envelope ≡ typed → k .limit ≡ limit
@@ -49,6 +49,6 @@ module _ {A : Type 0} (k : Kind) (body : A → Contents k) where
     envelope = e;
     limit = l;
     able = refl;
-    size = λ c is. let z : _≡_ {A = ℕ} 0 1 = cc in absurd (omega arith);
+    size = λ c is. absurd (none-some is);
   }
   measured-given m (some x) e l a s = measured m k (body x) e l (a x refl) (s x refl)

@@ -1,6 +1,6 @@
 -- Fields: how long their bytes are, whether they can be written, and a list's bytes at each turn of a loop.
-use Prim.Native.Nat.{ℕ, zero, suc, _+_, _*_, _/_, _%_, _<_}
-use mathlib.Core.Bool.{Bool, true, false, _&&_}
+use Prim.Native.Nat.{ℕ, _+_, _*_, _<_, _^_}
+use mathlib.Core.Bool.{true, and-true}
 use mathlib.Core.List.{List, [], _∷_, _++_, append-nil}
 use mathlib.Core.Path.{_≡_, refl, ap, _∙_}
 use native.Mathlib.Omega.{arith}
@@ -9,14 +9,14 @@ use lib.IntN.{ℤ, pos}
 use lib.ListN.{length, getD, drop, length-append}
 use lib.Signed.{mag}
 use mir.Syntax.{w16}
-use mir.Val.{toZ, ofZ}
-use mir.ValLaws.{toZ-ofZ}
+use mir.Val.{hbits, toZ, ofZ}
 use Rattle.protocol.specs.declared.Rules.{Rules}
 use Rattle.protocol.specs.Bytes.{noZero, isOneOf, be, bitsOf}
 use Rattle.protocol.specs.Each.{bytesOfEach, ableEach}
 use Rattle.protocol.specs.Encode.{items}
-use Rattle.protocol.specs.Fields.{signed, oneOf, rest, one, able, bytes, atomBytes, atomAble, itemBytes, itemAble, itemsBytes, itemsAble}
+use Rattle.protocol.specs.Fields.{signedCount, most, signed, oneOf, rest, one, able, bytes, atomBytes, atomAble, itemBytes, itemAble, itemsBytes, itemsAble}
 use Rattle.protocol.specs.Kinds.{string, oid, format, oids, formats}
+use Rattle.protocol.proofs.Basics.{length-be, back}
 use Rattle.writers.proofs.Laws.{drop-more}
 
 pub length-items : {A : Type 0} (xs : List A) → length (items xs) ≡ length xs
@@ -41,12 +41,12 @@ able-words rules (x ∷ xs) = able-words rules xs
 
 -- ---- signed numbers of two bytes; b is the bits of the one at i, in the words of the code
 
-pub halves-more : (zs : List ℤ) (i : ℕ) {b : ℕ} → i < length zs → mag (getD zs i (pos 0)) < 32768
+pub halves-more : (zs : List ℤ) (i : ℕ) {b : ℕ} → i < length zs → mag (getD zs i (pos 0)) < 2 ^ hbits w16
     → b ≡ bitsOf 2 (toZ w16 (ofZ w16 (getD zs i (pos 0))))
     → itemsBytes format (items (drop i zs)) ≡ be 2 b ++ itemsBytes format (items (drop (i + 1) zs))
 unfolding itemsBytes itemBytes bytesOfEach atomBytes
 halves-more zs i {b} h small e =
-    let f : b ≡ bitsOf 2 (getD zs i (pos 0)) = e ∙ ap (bitsOf 2) (toZ-ofZ w16 (getD zs i (pos 0)) (record { sfits = small })) in
+    let f : b ≡ bitsOf 2 (getD zs i (pos 0)) = e ∙ ap (bitsOf 2) (back w16 (getD zs i (pos 0)) small) in
     rw (drop-more zs i (pos 0) h, f, append-nil (be 2 (bitsOf 2 (getD zs i (pos 0))))) refl
 
 pub length-halves : (zs : List ℤ) → length (itemsBytes format (items zs)) ≡ 2 * length zs
@@ -61,22 +61,6 @@ able-halves rules (z ∷ zs) = able-halves rules zs
 
 -- ---- fields
 
-pub and-true : (a : Bool) → a && true ≡ a
-and-true true = refl
-and-true false = refl
-
-pub and-false : (a : Bool) → a && false ≡ false
-and-false true = refl
-and-false false = refl
-
-pub and-left : (a b : Bool) → a && b ≡ true → a ≡ true
-and-left true b e = refl
-and-left false b e = e
-
-pub and-right : (a : Bool) {b : Bool} → a && b ≡ true → b ≡ true
-and-right true e = e
-and-right false e = let z : _≡_ {A = ℕ} 0 1 = cc in absurd (omega arith)
-
 pub able-text : (rules : Rules) (s : List ℕ) → able rules string s ≡ noZero s
 unfolding able atomAble
 able-text rules s = refl
@@ -88,11 +72,6 @@ length-text s = length-append s (0 ∷ [])
 pub able-signed : (rules : Rules) (w : ℕ) (z : ℤ) → able rules (one (signed w)) z ≡ true
 unfolding able atomAble
 able-signed rules w z = refl
-
-length-be : (w n : ℕ) → length (be w n) ≡ w
-unfolding be
-length-be zero n = refl
-length-be (suc w) n = omega (arith, length-append (be w (n / 256)) (n % 256 ∷ []), length-be w (n / 256))
 
 pub length-signed : (w : ℕ) (z : ℤ) → length (bytes (one (signed w)) z) ≡ w
 unfolding bytes atomBytes
@@ -114,17 +93,17 @@ pub length-rest : (s : List ℕ) → length (bytes (one rest) s) ≡ length s
 unfolding bytes atomBytes
 length-rest s = refl
 
-pub able-oids : (rules : Rules) (xs : List ℕ) → able rules oids (items xs) ≡ leb (length xs) 32767
+pub able-oids : (rules : Rules) (xs : List ℕ) → able rules oids (items xs) ≡ leb (length xs) (most signedCount)
 unfolding able
-able-oids rules xs = rw (length-items xs, able-words rules xs) (and-true (leb (length xs) 32767))
+able-oids rules xs = rw (length-items xs, able-words rules xs) (and-true (leb (length xs) (most signedCount)))
 
 pub length-oids : (xs : List ℕ) → length (bytes oids (items xs)) ≡ 2 + 4 * length xs
 unfolding bytes be
 length-oids xs = omega (arith, length-words xs)
 
-pub able-formats : (rules : Rules) (zs : List ℤ) → able rules formats (items zs) ≡ leb (length zs) 32767
+pub able-formats : (rules : Rules) (zs : List ℤ) → able rules formats (items zs) ≡ leb (length zs) (most signedCount)
 unfolding able
-able-formats rules zs = rw (length-items zs, able-halves rules zs) (and-true (leb (length zs) 32767))
+able-formats rules zs = rw (length-items zs, able-halves rules zs) (and-true (leb (length zs) (most signedCount)))
 
 pub length-formats : (zs : List ℤ) → length (bytes formats (items zs)) ≡ 2 + 2 * length zs
 unfolding bytes be

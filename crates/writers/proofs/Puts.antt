@@ -1,16 +1,16 @@
 -- Writers that look for their room: what the test tells, and one write after the other.
 use Prim.Native.Nat.{ℕ, _+_, _-_, _≤_, _<_}
-use mathlib.Core.Bool.{Bool, true, false, _&&_}
-use mathlib.Core.List.{List, [], _∷_, _++_}
+use mathlib.Core.Bool.{Bool, true, false, _&&_, true≢false}
+use mathlib.Core.List.{List, [], _++_}
 use mathlib.Core.Path.{_≡_, refl, ap, _∙_, sym}
 use native.Mathlib.Omega.{arith}
 use borrow.Author.Tests.{leb-true, leb-false, le-leb, lt-leb}
 use lib.Dec.{leb}
-use lib.ListN.{length, set, length-set}
+use lib.ListN.{length}
 use Rattle.protocol.specs.Kinds.{largeFrame}
-use Rattle.writers.specs.Writing.{write, Wrote, Put}
-use Rattle.writers.proofs.Laws.{_then_, nothing}
-use Rattle.writers.proofs.Lists.{and-left, and-right}
+use Rattle.writers.specs.Writing.{Wrote, Put}
+use Rattle.protocol.proofs.Basics.{and-left, and-right}
+use Rattle.writers.proofs.Laws.{_then_, nothing, length-write}
 
 -- the test, as the code makes it
 pub less : (p n l : ℕ) → p ≤ l → leb n (l - p) ≡ leb (p + n) l
@@ -27,16 +27,13 @@ module _ {may r : Bool} {d : List ℕ} {p n : ℕ} (e : r ≡ may && leb (p + n)
   pub put : {xs out : List ℕ} {next : ℕ} → r ≡ true → Wrote d p xs n out next → Put may d p xs n out next
   put t w = record {
     fits = λ _ _. w;
-    short = λ f. let g : true ≡ false = sym t ∙ e ∙ f in let z : _≡_ {A = ℕ} 0 1 = cc in absurd (omega arith);
+    short = λ f. absurd (true≢false (sym t ∙ e ∙ f));
     near = omega (arith, w .place);
   }
 
   pub kept : {xs : List ℕ} → r ≡ false → Put may d p xs n d p
   kept f = record {
-    fits = λ m h.
-        let g : true ≡ false = sym (rw (m, le-leb (p + n) (length d) h) refl) ∙ sym e ∙ f in
-        let z : _≡_ {A = ℕ} 0 1 = cc in
-        absurd (omega arith);
+    fits = λ m h. absurd (true≢false (sym (rw (m, le-leb (p + n) (length d) h) refl) ∙ sym e ∙ f));
     short = λ _. (refl, refl);
     near = omega arith;
   }
@@ -45,10 +42,6 @@ module _ {may r : Bool} {d : List ℕ} {p n : ℕ} (e : r ≡ may && leb (p + n)
 
 abbrev pub Fits : List ℕ → ℕ → List ℕ → ℕ → List ℕ → ℕ → Type 0
 Fits d p xs n out next = p + n ≤ length d → Wrote d p xs n out next
-
-length-write : (d : List ℕ) (p : ℕ) (xs : List ℕ) → length (write d p xs) ≡ length d
-length-write d p [] = refl
-length-write d p (x ∷ xs) = length-write (set d p x) (p + 1) xs ∙ length-set d p x
 
 pub same-size : {d xs out : List ℕ} {p n next : ℕ} → Wrote d p xs n out next → length out ≡ length d
 same-size {d} {xs} {p = p} w = ap length (w .bytes) ∙ length-write d p xs

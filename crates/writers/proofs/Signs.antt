@@ -1,6 +1,6 @@
 -- A signed number's two's complement, by its sign, at each width.
 use Prim.Native.Nat.{ℕ, suc, _-_, _%_, _<_, _^_}
-use mathlib.Core.Bool.{true, false}
+use mathlib.Core.Bool.{true, false, true≢false}
 use mathlib.Core.List.{List, [], _∷_}
 use mathlib.Core.Path.{_≡_, refl, ap, _∙_, sym}
 use native.Mathlib.Omega.{arith}
@@ -49,10 +49,7 @@ pub record High (w : Width) (x : ℤ) : Type 0 where
 pub high : (w : Width) (x : ℤ) → SFits w x → ltZ (toZ w (ofZ w x)) (pos 0) ≡ false → High w x
 unfolding bitsOf
 high w (pos m) f t = record { n = m; small = f .sfits; again = toZ-ofZ w (pos m) f; is = λ b. refl }
-high w (negsuc m) f t =
-    let k : true ≡ false = ap (λ (z : ℤ). ltZ z (pos 0)) (sym (toZ-ofZ w (negsuc m) f)) ∙ t in
-    let z : _≡_ {A = ℕ} 0 1 = cc in
-    absurd (omega arith)
+high w (negsuc m) f t = absurd (true≢false (ap (λ (z : ℤ). ltZ z (pos 0)) (sym (toZ-ofZ w (negsuc m) f)) ∙ t))
 
 -- a number that is passed on is read back from its bits
 pub bits-of : {n : ℕ} (w : Width) (b : ℕ) (x : ℤ) → SFits w x → n ≡ bitsOf b (toZ w (ofZ w x)) → n ≡ bitsOf b x

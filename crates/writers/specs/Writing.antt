@@ -12,6 +12,10 @@ use Rattle.protocol.specs.Kinds.{Envelope, Kind}
 use Rattle.protocol.specs.Refusals.{lengthAboveLimit, outputTooShort, notRepresentable}
 use Rattle.protocol.specs.WellFormed.{Contents, frame}
 
+-- the largest number of a usize, at which sizes stop
+abbrev pub largest : ℕ
+largest = 18446744073709551615
+
 -- d with xs stored from p on
 abbrev pub write : List ℕ → ℕ → List ℕ → List ℕ
 write d p [] = d
@@ -31,7 +35,7 @@ pub record Put (may : Bool) (d : List ℕ) (p : ℕ) (xs : List ℕ) (n : ℕ) (
   pub near : next ≤ p + n
 
 -- left is d with the frame of what is given stored at its start
-pub record Framed (e : Envelope) (k : Kind) (given : Option (Contents k)) (d left : List ℕ) : Type 0 where
+pub record WroteFrame (e : Envelope) (k : Kind) (given : Option (Contents k)) (d left : List ℕ) : Type 0 where
   pub bytes : (c : Contents k) → given ≡ some c → left ≡ write d 0 (frame e k c)
 
 -- the answer to a frame whose length is size, with uncounted bytes that it does not count

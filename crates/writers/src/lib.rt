@@ -12,12 +12,13 @@ ghost use lib.Dec.{leb};
 ghost use lib.ListN.{drop, length, take};
 ghost use Rattle.protocol.specs.Bytes.{be, bitsOf, noZero};
 ghost use Rattle.protocol.specs.Encode.{items};
-ghost use Rattle.protocol.specs.Fields.{bytes, itemsBytes};
+ghost use Rattle.protocol.specs.Fields.{bytes, itemsBytes, most, signedCount};
 ghost use Rattle.protocol.specs.Kinds.{format, formats, largeFrame, oid, oids, typed};
 ghost use Rattle.protocol.specs.WellFormed.{header};
-ghost use Rattle.writers.specs.Writing.{Put, Wrote, verdictOf};
+ghost use Rattle.writers.specs.Writing.{Put, Wrote, largest, verdictOf};
 use protocol::Encoded;
 use protocol::kinds::LARGE_FRAME;
+use protocol::kinds::MOST_SIGNED;
 use protocol::refusal::LENGTH_ABOVE_LIMIT;
 use protocol::refusal::NOT_REPRESENTABLE;
 use protocol::refusal::OUTPUT_TOO_SHORT;
@@ -250,7 +251,7 @@ fn store_halves(out: &mut [u8], at: usize, xs: &[i16]) -> usize
 
 // Oids and formats, with their count before them.
 fn store_oids(out: &mut [u8], at: usize, xs: &[u32]) -> usize
-    requires { ⌜ (at + 4 * length (now xs) + 2 ≤ length (now out)) × (length (now xs) ≤ 32767) ⌝ }
+    requires { ⌜ (at + 4 * length (now xs) + 2 ≤ length (now out)) × (length (now xs) ≤ most signedCount) ⌝ }
     ensures { λ r. ⌜ Wrote (now (out .entry)) at (bytes oids (items (now (xs .entry)))) (2 + 4 * length (now (xs .entry))) (now (out .exit)) r ⌝ }
 {
     let first = store_half(out, at, xs.len() as u16);
@@ -258,7 +259,7 @@ fn store_oids(out: &mut [u8], at: usize, xs: &[u32]) -> usize
 }
 
 fn store_formats(out: &mut [u8], at: usize, xs: &[i16]) -> usize
-    requires { ⌜ (at + 2 * length (now xs) + 2 ≤ length (now out)) × (length (now xs) ≤ 32767) ⌝ }
+    requires { ⌜ (at + 2 * length (now xs) + 2 ≤ length (now out)) × (length (now xs) ≤ most signedCount) ⌝ }
     ensures { λ r. ⌜ Wrote (now (out .entry)) at (bytes formats (items (now (xs .entry)))) (2 + 2 * length (now (xs .entry))) (now (out .exit)) r ⌝ }
 {
     let at = store_half(out, at, xs.len() as u16);
@@ -267,19 +268,17 @@ fn store_formats(out: &mut [u8], at: usize, xs: &[i16]) -> usize
 
 // ---- sizes, the answer, and the head of a frame
 
+const LARGEST: usize = 18446744073709551615;
+
 // a + b, or the largest usize where that is less.
 pub fn plus(a: usize, b: usize) -> usize
-    ensures { λ r. ⌜ r ≡ min (a + b) 18446744073709551615 ⌝ }
+    ensures { λ r. ⌜ r ≡ min (a + b) largest ⌝ }
 {
-    if b <= 18446744073709551615 - a {
-        a + b
-    } else {
-        18446744073709551615
-    }
+    if b <= LARGEST - a { a + b } else { LARGEST }
 }
 
 pub fn plus4(a: usize, b: usize, c: usize, d: usize) -> usize
-    ensures { λ r. ⌜ r ≡ min (a + b + c + d) 18446744073709551615 ⌝ }
+    ensures { λ r. ⌜ r ≡ min (a + b + c + d) largest ⌝ }
 {
     plus(plus(a, b), plus(c, d))
 }
@@ -385,20 +384,20 @@ pub fn put_pairs(out: &mut [u8], at: usize, a: u32, b: u16, c: u32, d: u16, e: u
     at
 }
 
-// A list of more than 32767 has no count of two bytes: nothing is written.
+// A list of more than MOST_SIGNED has no count: nothing is written.
 pub fn put_oids(out: &mut [u8], at: usize, xs: &[u32]) -> usize
-    ensures { λ r. ⌜ Put (leb (length (now (xs .entry))) 32767) (now (out .entry)) at (bytes oids (items (now (xs .entry)))) (2 + 4 * length (now (xs .entry))) (now (out .exit)) r ⌝ }
+    ensures { λ r. ⌜ Put (leb (length (now (xs .entry))) (most signedCount)) (now (out .entry)) at (bytes oids (items (now (xs .entry)))) (2 + 4 * length (now (xs .entry))) (now (out .exit)) r ⌝ }
 {
-    if room(xs.len() <= 32767, out.len(), at, 2 + 4 * xs.len()) {
+    if room(xs.len() <= MOST_SIGNED, out.len(), at, 2 + 4 * xs.len()) {
         return store_oids(out, at, xs);
     }
     at
 }
 
 pub fn put_formats(out: &mut [u8], at: usize, xs: &[i16]) -> usize
-    ensures { λ r. ⌜ Put (leb (length (now (xs .entry))) 32767) (now (out .entry)) at (bytes formats (items (now (xs .entry)))) (2 + 2 * length (now (xs .entry))) (now (out .exit)) r ⌝ }
+    ensures { λ r. ⌜ Put (leb (length (now (xs .entry))) (most signedCount)) (now (out .entry)) at (bytes formats (items (now (xs .entry)))) (2 + 2 * length (now (xs .entry))) (now (out .exit)) r ⌝ }
 {
-    if room(xs.len() <= 32767, out.len(), at, 2 + 2 * xs.len()) {
+    if room(xs.len() <= MOST_SIGNED, out.len(), at, 2 + 2 * xs.len()) {
         return store_formats(out, at, xs);
     }
     at

@@ -1,32 +1,18 @@
 -- `reader::string` meets its contract: the thin walk, with `string_at`.
-use mathlib.Core.Path.{_≡_}
-use mathlib.Core.List.{List}
-use Prim.Native.Nat.{ℕ}
-use contract.Running.{givenOf, tables, tablesOf}
+use contract.Running.{givenOf}
 use denote.Enum.Laws as EL
-use denote.Triple.Spec.{tripleOf}
-use denote.Triple.Table.{entered, cited}
-use Rattle.protocol.specs.Reading.{readText}
-use Rattle.codec.specs.Answers.{textRead}
-use Rattle.codec.specs.declared.Text.{Text}
 use Rattle.codec.proofs.Text as S
 use Rattle.codec.proofs.Text.Laws as S′
 use Rattle.reader.proofs.string_at.Symbol as called
 use Rattle.reader.proofs.string_at.Met as called-thm
 use Rattle.reader.proofs.string.Key.{name as #reader·string}
-use Rattle.reader.proofs.string as string
 use Rattle.reader.proofs.string.Statement as stated
 use Rattle.reader.proofs.string.Code as code
-use Rattle.reader.proofs.Thin.{CalledBy, thin-meets}
-
-abbrev Claim : List ℕ → ℕ → Text → Type 0
-Claim frame at r = textRead at r ≡ readText frame at
+use Rattle.reader.proofs.Claims.{StringAt}
+use Rattle.reader.proofs.Thin.{thin-entered}
 
 pub string-spec : {M : Type 1} → stated.statement M
-unfolding code.routine tablesOf
+unfolding code.routine
 string-spec 𝓤 H 𝓜 𝓖 𝓡 =
-    let W = givenOf 𝓤 H 𝓜 𝓖 in
-    entered 𝓤 H (tripleOf 𝓤 H (𝓖 .A) string.signature (string.spec 𝓤 H (𝓖 .A) (𝓜 .mem) (𝓡 .run)))
-    (tables 𝓤 H 𝓜 𝓡 code.env .C) (tables 𝓤 H 𝓜 𝓡 code.env .Λ) #reader·string code.function (code.unfolded 𝓤 H 𝓜 𝓡)
-    (thin-meets called.name S′.mir S.the-row Claim 𝓤 H (𝓖 .A) W (λ r u is. EL.lawful S.the-type S′.the-laws 𝓤 H (𝓖 .A) W tt .typed r _ is .0) (tablesOf 𝓤 H 𝓜 (tables 𝓤 H 𝓜 𝓡 code.env))
-    (cited 𝓤 H (CalledBy S.the-row Claim 𝓤 H (𝓖 .A)) 𝓜 𝓡 code.env called.name called.routine code.calls-reader·string-at (called-thm.met 𝓤 H 𝓜 𝓖 𝓡)))
+    thin-entered called.name S′.mir S.the-row StringAt 𝓤 H 𝓜 𝓖 𝓡 (λ r u is. EL.lawful S.the-type S′.the-laws 𝓤 H (𝓖 .A) (givenOf 𝓤 H 𝓜 𝓖) tt .typed r _ is .0)
+    code.env #reader·string (code.unfolded 𝓤 H 𝓜 𝓡) called.routine code.calls-reader·string-at (called-thm.met 𝓤 H 𝓜 𝓖 𝓡)

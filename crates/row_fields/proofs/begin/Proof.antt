@@ -9,7 +9,7 @@ use Rattle.protocol.specs.Kinds.{rowDescription}
 use Rattle.writers.specs.Writing.{write}
 use Rattle.writers.proofs.Puts.{headed}
 use Rattle.row_fields.specs.Passes.{answered, begun}
-use Rattle.row_fields.proofs.Answers.{roomy-of}
+use Rattle.row_fields.proofs.Roomy.{roomy-of}
 use Rattle.row_fields.proofs.begin.Statement.{statement}
 use Rattle.row_fields.proofs.begin.Tie as tie
 

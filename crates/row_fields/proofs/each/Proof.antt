@@ -1,5 +1,5 @@
 -- `row_fields::each` meets its contract: a walk of its code by hand. A lent slice of structs is read by a loop; each turn copies one element and
--- calls `step`, which is covered. The pen goes round by value, and is the answer.
+-- calls `step`, which is covered. The pass goes round by value, and is the answer.
 -- `fields` is looked into once, before the loop, and shut after it. `run` is Copy: a copy goes to each call. `out` is lent again for each
 -- call and comes back (`Again.antt`). The loop's variant, `Upto`, carries its invariant.
 use mathlib.Core.Path.{_≡_, refl, sym, _∙_, ap, subst}
@@ -52,11 +52,11 @@ use denote.Exit.{yes}
 use Rattle.protocol.proofs.Span as U
 use Rattle.protocol.specs.declared.data.FieldDescription.{FieldDescription}
 use Rattle.writers.proofs.Laws.{drop-more, drop-end}
-use Rattle.row_fields.specs.Passes.{stepPen, stepOut, allPen, allOut}
-use Rattle.row_fields.specs.declared.Pen.{Pen}
+use Rattle.row_fields.specs.Passes.{stepPass, stepOut, allPass, allOut}
+use Rattle.row_fields.specs.declared.Pass.{Pass}
 use Rattle.row_fields.proofs.Again.{LentAgain, lends-again, comes-back}
-use Rattle.row_fields.proofs.Pen as S
-use Rattle.row_fields.proofs.Pen.Laws as S′
+use Rattle.row_fields.proofs.Pass as S
+use Rattle.row_fields.proofs.Pass.Laws as S′
 use Rattle.protocol.proofs.data.FieldDescription as T
 use Rattle.protocol.proofs.data.FieldDescription.Laws as T′
 use Rattle.row_fields.proofs.step as g
@@ -88,10 +88,10 @@ abbrev τC : Ty
 abbrev τF : Ty
 τF = tyStruct (T.struct .name) (tcons (tyStruct (U.struct .name) (tcons (tyInt w64) (tcons (tyInt w64) tnil))) (tcons (tyInt w32) (tcons (tyInt w16) (tcons (tyInt w32) (tcons (tyInt w16) (tcons (tyInt w32) (tcons (tyInt w16) tnil)))))))
 
-abbrev low : Pen → Val
+abbrev low : Pass → Val
 low c = S′.lowered c
 
-abbrev Good : Pen → Type 0
+abbrev Good : Pass → Type 0
 Good c = Is Q c (low c ∷ [])
 
 -- the struct's size in bytes, as `rt mir` has it in the index's product
@@ -106,32 +106,32 @@ abbrev none : D
 none = record { name = record { start = 0; len = 0 }; «table_id» = pos 0; «column_id» = pos 0; «type_id» = 0; «type_size» = pos 0; «type_modifier» = pos 0; «format_code» = pos 0 }
 
 -- how far the loop is: its variant and its invariant in one
-record Upto (ys : List D) (ns zs₀ : List ℕ) (c₀ : Pen) : Type 0 where
+record Upto (ys : List D) (ns zs₀ : List ℕ) (c₀ : Pass) : Type 0 where
   i : ℕ
-  c : Pen
+  c : Pass
   zs : List ℕ
   good : Good c
   long : length zs ≡ length zs₀
-  ends : allPen (drop i ys) ns c ≡ allPen ys ns c₀
+  ends : allPass (drop i ys) ns c ≡ allPass ys ns c₀
   puts : allOut (drop i ys) ns zs c ≡ allOut ys ns zs₀ c₀
 
-module _ (ys : List D) (ns zs₀ : List ℕ) (c₀ : Pen) (t : Upto ys ns zs₀ c₀) where
+module _ (ys : List D) (ns zs₀ : List ℕ) (c₀ : Pass) (t : Upto ys ns zs₀ c₀) where
   abbrev elem : D
   elem = getD ys (t .i) none
 
-  -- one field less is left, for the pen and for the output
-  ends-next : t .i < length ys → (r : Pen) → r ≡ stepPen (t .c) elem ns → allPen (drop (t .i + 1) ys) ns r ≡ allPen ys ns c₀
-  unfolding allPen
-  ends-next l r e = ap (allPen (drop (t .i + 1) ys) ns) e ∙ ap (λ (us : List D). allPen us ns (t .c)) (sym (drop-more ys (t .i) none l)) ∙ t .ends
+  -- one field less is left, for the pass and for the output
+  ends-next : t .i < length ys → (r : Pass) → r ≡ stepPass (t .c) elem ns → allPass (drop (t .i + 1) ys) ns r ≡ allPass ys ns c₀
+  unfolding allPass
+  ends-next l r e = ap (allPass (drop (t .i + 1) ys) ns) e ∙ ap (λ (us : List D). allPass us ns (t .c)) (sym (drop-more ys (t .i) none l)) ∙ t .ends
 
-  puts-next : t .i < length ys → (r : Pen) (ws : List ℕ) → (r ≡ stepPen (t .c) elem ns) × (ws ≡ stepOut (t .c) elem ns (t .zs))
+  puts-next : t .i < length ys → (r : Pass) (ws : List ℕ) → (r ≡ stepPass (t .c) elem ns) × (ws ≡ stepOut (t .c) elem ns (t .zs))
       → allOut (drop (t .i + 1) ys) ns ws r ≡ allOut ys ns zs₀ c₀
   unfolding allOut
   puts-next l r ws e =
       (λ j. allOut (drop (t .i + 1) ys) ns (e .1 j) (e .0 j)) ∙ ap (λ (us : List D). allOut us ns (t .zs) (t .c)) (sym (drop-more ys (t .i) none l)) ∙ t .puts
 
   -- after a turn in which `step` gave r and left ws
-  abbrev next : t .i < length ys → (r : Pen) (ws : List ℕ) → Good r → length ws ≡ length (t .zs) → (r ≡ stepPen (t .c) elem ns) × (ws ≡ stepOut (t .c) elem ns (t .zs)) → Upto ys ns zs₀ c₀
+  abbrev next : t .i < length ys → (r : Pass) (ws : List ℕ) → Good r → length ws ≡ length (t .zs) → (r ≡ stepPass (t .c) elem ns) × (ws ≡ stepOut (t .c) elem ns (t .zs)) → Upto ys ns zs₀ c₀
   next l r ws good same e = record {
     i = t .i + 1;
     c = r;
@@ -143,9 +143,9 @@ module _ (ys : List D) (ns zs₀ : List ℕ) (c₀ : Pen) (t : Upto ys ns zs₀ 
   }
 
   -- where the loop is left, what it has is all
-  over-all : length ys ≤ t .i → (t .c ≡ allPen ys ns c₀) × (t .zs ≡ allOut ys ns zs₀ c₀)
-  unfolding allPen allOut
-  over-all l = (ap (λ (us : List D). allPen us ns (t .c)) (sym (drop-end ys (t .i) l)) ∙ t .ends, ap (λ (us : List D). allOut us ns (t .zs) (t .c)) (sym (drop-end ys (t .i) l)) ∙ t .puts)
+  over-all : length ys ≤ t .i → (t .c ≡ allPass ys ns c₀) × (t .zs ≡ allOut ys ns zs₀ c₀)
+  unfolding allPass allOut
+  over-all l = (ap (λ (us : List D). allPass us ns (t .c)) (sym (drop-end ys (t .i) l)) ∙ t .ends, ap (λ (us : List D). allOut us ns (t .zs) (t .c)) (sym (drop-end ys (t .i) l)) ∙ t .puts)
 
 -- ---- the walk
 abbrev after : Body → Body
@@ -162,7 +162,7 @@ abbrev Step : {M : Type 1} (𝓤 : URA M) (H : Heap 𝓤) (A : Atoms 𝓤) (mem 
 Step 𝓤 H A mem run = tripleOf 𝓤 H A g.signature (g.spec 𝓤 H A mem run)
 
 module _ {M : Type 1} (𝓤 : URA M) (H : Heap 𝓤) (A : Atoms 𝓤) (W : Given 𝓤 H A) (mem : Memory → SProp 𝓤) (run : Routine → Fun 𝓤) (κ₀ κ₁ κ₂ : Lft) (q₀ q₁ q₂ : Share)
-    (b₀ o₀ : ℕ) (γ₀ : GName) (ys : List D) (b₁ o₁ : ℕ) (γ₁ : GName) (ns : List ℕ) (b₂ o₂ : ℕ) (γ₂ : GName) (zs₀ : List ℕ) (c₀ : Pen)
+    (b₀ o₀ : ℕ) (γ₀ : GName) (ys : List D) (b₁ o₁ : ℕ) (γ₁ : GName) (ns : List ℕ) (b₂ o₂ : ℕ) (γ₂ : GName) (zs₀ : List ℕ) (c₀ : Pass)
     (room₀ : Room R (length ys)) (room₁ : Room u8 (length ns)) (room₂ : Room u8 (length zs₀)) (good₀ : Good c₀) where
   abbrev x₀ : RefT (List D)
   x₀ = record { ptr = (b₀, o₀); name = γ₀; now = ys }
@@ -178,7 +178,7 @@ module _ {M : Type 1} (𝓤 : URA M) (H : Heap 𝓤) (A : Atoms 𝓤) (W : Given
   n = length ys
 
   abbrev Arg : Type 0
-  Arg = RefT (List D) × (RefT (List ℕ) × (RefT (List ℕ) × (Pen × Unit {0})))
+  Arg = RefT (List D) × (RefT (List ℕ) × (RefT (List ℕ) × (Pass × Unit {0})))
 
   abbrev a : Arg
   a = (x₀, (x₁, (x₂ γ₂ zs₀, (c₀, tt))))
@@ -202,7 +202,7 @@ module _ {M : Type 1} (𝓤 : URA M) (H : Heap 𝓤) (A : Atoms 𝓤) (W : Given
   abbrev Post : Val → SProp 𝓤
   Post = walkOf 𝓤 H A f.ended stayed (f.clauses 𝓤 H A mem run) .post (((κ₀, (κ₁, (κ₂, tt))), (q₀, (q₁, (q₂, tt))), tt, a, vals), tt)
 
-  exits : (r : Pen) (l : List ℕ) → Good r → length l ≡ length zs₀ → (r ≡ allPen ys ns c₀) × (l ≡ allOut ys ns zs₀ c₀)
+  exits : (r : Pass) (l : List ℕ) → Good r → length l ≡ length zs₀ → (r ≡ allPass ys ns c₀) × (l ≡ allOut ys ns zs₀ c₀)
       → ent 𝓤 (⋆ 𝓤 H A (‵ (flft κ₀ q₀) ∷ ‵ Own₀ ∷ ‵ Own₁ ∷ ‵ (flft κ₁ q₁) ∷ ‵ (Own₂ l (length l)) ∷ ‵ (flft κ₂ q₂) ∷ [])) (Post (low r))
   exits r l good long e =
       qed W (‵ (flft κ₀ q₀) ∷ ‵ Own₀ ∷ ‵ Own₁ ∷ ‵ (flft κ₁ q₁) ∷ ‵ (Own₂ l (length l)) ∷ ‵ (flft κ₂ q₂) ∷ []) ∵
@@ -213,7 +213,7 @@ module _ {M : Type 1} (𝓤 : URA M) (H : Heap 𝓤) (A : Atoms 𝓤) (W : Given
       owned ! Q (Is Q) (LL.makes S.the-type S′.the-plain 𝓤 H A) r _ good $ done !
 
   -- what `step`'s triple binds outside: the element, `names`, and `out` lent again for the lifetime ν, under the name δ
-  module _ (d : D) (l : List ℕ) (m : Pen) (m-good : Good m) where
+  module _ (d : D) (l : List ℕ) (m : Pass) (m-good : Good m) where
     abbrev to-put : ℕ → GName → Step 𝓤 H A mem run .Ghost
     to-put ν δ = (((κ₁, (ν ∷ [], tt)), (q₁, (fullShare, tt)), tt, (m, (d, (x₁, (x₂ δ l, tt)))), (low m ∷ [], (LL.vals T.the-type T′.the-laws d, (sliceVal (b₁, o₁) (length ns) ∷ [], (sliceVal (b₂, o₂) (length l) ∷ [], tt))))), tt)
 
@@ -297,11 +297,11 @@ module _ {M : Type 1} (𝓤 : URA M) (H : Heap 𝓤) (A : Atoms 𝓤) (W : Given
         -- [pre; Own₁; LentAgain; row; obor; Own₀; _12 6; _11 8; _10 10; _9 12; _8 14; _7 16; _6 18; _5 20; _4 22; _3 24; _2 26; _1 28; _0 30]
         calls-at ! (fmOf 𝓤 H (W .laws) 𝓣) (Step 𝓤 H A mem run) known (to-put (getD ys (t .i) none) (t .zs) (t .c) (t .good) ν δ)
         (and-then ! (load ! (from ! (stop !)) (look ! 18 refl)) (and-then ! (load ! (from ! (stop !)) (look ! 10 refl)) (and-then ! (load ! (from ! (stop !)) (look ! 26 refl)) (and-then ! (load ! (from ! (stop !)) (look ! 6 refl)) (no-more !))))) (λ w.
-        use1 W (later (some (λ (r : Pen). ((‵ (flft κ₁ q₁) ⊛ (‵ (flft (ν ∷ []) fullShare) ⊛ ‵ ftrue)) ⊛ ‵ (Q .own r (w ∷ [])))
+        use1 W (later (some (λ (r : Pass). ((‵ (flft κ₁ q₁) ⊛ (‵ (flft (ν ∷ []) fullShare) ⊛ ‵ ftrue)) ⊛ ‵ (Q .own r (w ∷ [])))
         ⊛ raw (ensured 𝓤 H A g.ended (g.clauses 𝓤 H A mem run) (κ₁, (ν ∷ [], tt)) (t .c, (getD ys (t .i) none, (x₁, (x₂ δ (t .zs), tt)))) tt r)))) (id⊢ 𝓤 _) $ await ! tt $ pick ! (λ r. split ! $ move ! (1 ∷ []) $
         use1 W (some (λ (ws : Unit {0} × (Unit {0} × (Unit {0} × (List ℕ × Unit {0})))). ‵ (lasts g.ended (κ₁, (ν ∷ [], tt)) (t .c, (getD ys (t .i) none, (x₁, (x₂ δ (t .zs), tt)))) ws)
-        ⊛ raw (fact 𝓤 ((r ≡ stepPen (t .c) (getD ys (t .i) none) ns) × (ws .1 .1 .1 .0 ≡ stepOut (t .c) (getD ys (t .i) none) ns (t .zs)))))) (id⊢ 𝓤 _) $ pick ! (λ ws.
-        split ! $ move ! (1 ∷ []) $ heard ! ((r ≡ stepPen (t .c) (getD ys (t .i) none) ns) × (ws .1 .1 .1 .0 ≡ stepOut (t .c) (getD ys (t .i) none) ns (t .zs))) (λ e.
+        ⊛ raw (fact 𝓤 ((r ≡ stepPass (t .c) (getD ys (t .i) none) ns) × (ws .1 .1 .1 .0 ≡ stepOut (t .c) (getD ys (t .i) none) ns (t .zs)))))) (id⊢ 𝓤 _) $ pick ! (λ ws.
+        split ! $ move ! (1 ∷ []) $ heard ! ((r ≡ stepPass (t .c) (getD ys (t .i) none) ns) × (ws .1 .1 .1 .0 ≡ stepOut (t .c) (getD ys (t .i) none) ns (t .zs))) (λ e.
         fsplit ! $ lose ! $ fsplit ! $ lose ! $ fsplit ! $ lose ! $ fsplit ! $ fsplit ! $ move ! (1 ∷ []) $ feqL ! (λ same.
         -- [finally; true; the tokens and the result 2; Own₁; LentAgain; row; obor; Own₀; _12 8; …]
         move ! (2 ∷ []) $ split ! $ move ! (1 ∷ []) $ peeks ! Q (Is Q) (shows 𝓤 H A Q) r (w ∷ []) (λ is-r.

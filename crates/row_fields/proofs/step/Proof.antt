@@ -4,7 +4,7 @@ use native.Mathlib.Omega.{arith}
 use borrow.Author.Needs.{needs}
 use denote.Ref.{now}
 use Rattle.row_fields.specs.Passes.{after}
-use Rattle.row_fields.proofs.Fields.{penned, roomy, put, short, kept}
+use Rattle.row_fields.proofs.Fields.{stepped, roomy, put, short, kept}
 use Rattle.row_fields.proofs.step.Statement.{statement}
 use Rattle.row_fields.proofs.step.Tie as tie
 
@@ -28,7 +28,7 @@ returns c =
     let p = n .before .before in
     let a = p .before .before .before .before .args in
     let same = n .name-able .ensures in (
-      penned (a .c) (a .f) (now (a .run)) same (place p),
+      stepped (a .c) (a .f) (now (a .run)) same (place p),
       put (a .c) (a .f) (now (a .run)) same (place p) (now (a .out)) (n .before .if1 .taken) (t .if2 .taken) (w .put-field .ensures .bytes),
     )
 
@@ -38,14 +38,14 @@ returns-2 c =
     let p = n .before .before in
     let a = p .before .before .before .before .args in
     let same = n .name-able .ensures in
-    (penned (a .c) (a .f) (now (a .run)) same (place p), short (a .c) (a .f) (now (a .run)) same (place p) (now (a .out)) (n .before .if1 .taken) (c .if2 .left))
+    (stepped (a .c) (a .f) (now (a .run)) same (place p), short (a .c) (a .f) (now (a .run)) same (place p) (now (a .out)) (n .before .if1 .taken) (c .if2 .left))
 
 returns-3 : tie.Need-returns-3
 returns-3 c =
     let n = c .before in
     let p = n .before .before in
     let a = p .before .before .before .before .args in
-    (penned (a .c) (a .f) (now (a .run)) (n .name-able2 .ensures) (place p), kept (a .c) (a .f) (now (a .run)) (now (a .out)) (n .before .if1 .left))
+    (stepped (a .c) (a .f) (now (a .run)) (n .name-able2 .ensures) (place p), kept (a .c) (a .f) (now (a .run)) (now (a .out)) (n .before .if1 .left))
 
 pub step-spec : {M : Type 1} → statement M
 step-spec =

@@ -3,7 +3,7 @@ use mathlib.Core.Bool.{_&&_}
 use borrow.Author.Needs.{needs}
 use borrow.Author.Tests.{leb-true}
 use Rattle.protocol.specs.Kinds.{largeFrame}
-use Rattle.writers.proofs.Lists.{and-left, and-right}
+use Rattle.protocol.proofs.Basics.{and-left, and-right}
 use lib.Dec.{leb}
 use Rattle.writers.proofs.Puts.{has-room, put, kept}
 use Rattle.writers.proofs.put_head.Statement.{statement}

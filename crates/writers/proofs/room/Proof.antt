@@ -1,10 +1,9 @@
 -- `writers::room` meets its contract.
 use Prim.Native.Nat.{_+_}
-use mathlib.Core.Bool.{Bool, _&&_}
+use mathlib.Core.Bool.{Bool, _&&_, and-false}
 use mathlib.Core.Path.{ap, sym}
 use native.Mathlib.Omega.{arith}
 use borrow.Author.Tests.{lt-leb}
-use Rattle.writers.proofs.Lists.{and-false}
 use Rattle.writers.proofs.Puts.{less}
 use Rattle.writers.proofs.room.Statement.{statement}
 use Rattle.writers.proofs.room.Tie as tie

@@ -7,12 +7,13 @@ use denote.Ref.{now}
 use lib.Dec.{leb}
 use lib.ListN.{length}
 use Rattle.protocol.specs.Encode.{valuesGiven}
+use Rattle.protocol.specs.Fields.{most, signedCount}
 use Rattle.protocol.specs.Kinds as K
 use Rattle.writers.specs.Given.{isSome}
 use Rattle.writers.proofs.Encoding.{Judged, judged, roomOf, refused, finished}
-use Rattle.writers.proofs.Lists.{and-left, and-right}
+use Rattle.protocol.proofs.Basics.{and-left, and-right}
 use Rattle.encode.specs.Given as G
-use Rattle.encode.proofs.GivenMeasures as M
+use Rattle.encode.proofs.Measures as M
 use Rattle.encode.proofs.data.data_row.Statement.{statement}
 use Rattle.encode.proofs.data.data_row.Tie as tie
 
@@ -32,12 +33,12 @@ write-data-row-requires c κs =
     let a = start v .args in
     let some = isSome (valuesGiven (now (a .lengths)) (now (a .joined))) in
     let h = roomOf (M.dataRow (now (a .lengths)) (now (a .joined))) (says v) (c .before .before .r .given .1) in
-    let few : length (now (a .lengths)) ≤ 32767 = leb-true _ _ (and-right some (h .able)) in (
+    let few : length (now (a .lengths)) ≤ most signedCount = leb-true _ _ (and-right some (h .able)) in (
       omega (arith, h .whole),
       h .fits,
       h .small,
       few,
-      and-left some (leb (length (now (a .lengths))) 32767) (h .able),
+      and-left some (leb (length (now (a .lengths))) (most signedCount)) (h .able),
     )
 
 returns-2 : tie.Need-returns-2

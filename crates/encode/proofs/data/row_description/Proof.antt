@@ -1,6 +1,6 @@
 -- `encode::data::row_description` meets its contract: a walk of its code by hand, with four calls and no branch. `each` is walked, `begin` and
--- `writer` are covered: of each its contract alone is known here. `out` is lent again for each call and comes back (`Again.antt` of rows);
--- `fields` and `run` are Copy.
+-- `writing_pass` are covered: of each its contract alone is known here. `out` is lent again for each call and comes back (`Again.antt` of
+-- row_fields); `fields` and `run` are Copy.
 use Prim.Native.Nat.{ℕ, _<_}
 use mathlib.Core.List.{List, [], _∷_}
 use mathlib.Core.Path.{_≡_, refl, sym, _∙_, subst}
@@ -45,15 +45,16 @@ use denote.Exit.{yes}
 use Rattle.protocol.specs.declared.Encoded.{Encoded}
 use Rattle.protocol.specs.declared.data.FieldDescription.{FieldDescription}
 use Rattle.protocol.specs.Encode.{Encodes}
+use Rattle.writers.specs.Writing.{largest}
 use Rattle.protocol.specs.Kinds as K
 use Rattle.protocol.proofs.Encoded as E
 use Rattle.protocol.proofs.Encoded.Laws as E′
 use Rattle.protocol.proofs.data.FieldDescription as T
-use Rattle.row_fields.specs.declared.Pen.{Pen}
-use Rattle.row_fields.specs.Passes.{allPen, allOut, answered, begun, blank, writer}
+use Rattle.row_fields.specs.declared.Pass.{Pass}
+use Rattle.row_fields.specs.Passes.{allPass, allOut, answered, begun, measuringPass, writingPass}
 use Rattle.row_fields.proofs.Again.{LentAgain, lends-again, comes-back}
-use Rattle.row_fields.proofs.Pen as S
-use Rattle.row_fields.proofs.Pen.Laws as S′
+use Rattle.row_fields.proofs.Pass as S
+use Rattle.row_fields.proofs.Pass.Laws as S′
 use Rattle.row_fields.proofs.begin as b
 use Rattle.row_fields.proofs.begin.Symbol as b-def
 use Rattle.row_fields.proofs.begin.Symbol.{name as #row-fields·begin}
@@ -62,12 +63,12 @@ use Rattle.row_fields.proofs.each as p
 use Rattle.row_fields.proofs.each.Symbol as p-def
 use Rattle.row_fields.proofs.each.Symbol.{name as #row-fields·each}
 use Rattle.row_fields.proofs.each.Met as p-thm
-use Rattle.row_fields.proofs.writer as w
-use Rattle.row_fields.proofs.writer.Symbol as w-def
-use Rattle.row_fields.proofs.writer.Symbol.{name as #row-fields·writer}
-use Rattle.row_fields.proofs.writer.Met as w-thm
+use Rattle.row_fields.proofs.writing_pass as w
+use Rattle.row_fields.proofs.writing_pass.Symbol as w-def
+use Rattle.row_fields.proofs.writing_pass.Symbol.{name as #row-fields·writing-pass}
+use Rattle.row_fields.proofs.writing_pass.Met as w-thm
 use Rattle.encode.specs.Given as G
-use Rattle.encode.proofs.Rows.{joined}
+use Rattle.encode.proofs.TwoPasses.{joined}
 use Rattle.encode.proofs.data.row_description.Key.{name as #encode·data·row-description}
 use Rattle.encode.proofs.data.row_description as f
 use Rattle.encode.proofs.data.row_description.Statement as stated
@@ -83,11 +84,11 @@ Q = S.the-row
 abbrev Ans : RattleType
 Ans = E.the-row
 
-abbrev low : Pen → Val
+abbrev low : Pass → Val
 low c = S′.lowered c
 
-good-blank : Is Q blank (low blank ∷ [])
-good-blank = LL.owes S.the-type S′.the-laws blank ((refl, lit< tt), (refl, (refl, tt)))
+good-measuring : Is Q measuringPass (low measuringPass ∷ [])
+good-measuring = LL.owes S.the-type S′.the-laws measuringPass ((refl, lit< tt), (refl, (refl, tt)))
 
 abbrev stayed : Stays (f.ended .signature .params) (f.ended .kept)
 stayed = (stay-none-slice (0 ∷ []) tt (plain (λ _. R)) yes, (stay-none-slice (1 ∷ []) tt (plain (λ _. u8)) yes, (stay-slice (2 ∷ []) tt (plain (λ _. u8)), tt)))
@@ -100,8 +101,8 @@ module _ {M : Type 1} (𝓤 : URA M) (H : Heap 𝓤) (A : Atoms 𝓤) (mem : Mem
   abbrev Each : Contract 𝓤
   Each = tripleOf 𝓤 H A p.signature (p.spec 𝓤 H A mem run)
 
-  abbrev Writer : Contract 𝓤
-  Writer = tripleOf 𝓤 H A w.signature (w.spec 𝓤 H A mem run)
+  abbrev WritingPass : Contract 𝓤
+  WritingPass = tripleOf 𝓤 H A w.signature (w.spec 𝓤 H A mem run)
 
 module _ {M : Type 1} (𝓤 : URA M) (H : Heap 𝓤) (A : Atoms 𝓤) (W : Given 𝓤 H A) (mem : Memory → SProp 𝓤) (run : Routine → Fun 𝓤) (κ₀ κ₁ κ₂ : Lft) (q₀ q₁ q₂ : Share)
     (b₀ o₀ : ℕ) (γ₀ : GName) (ys : List FieldDescription) (b₁ o₁ : ℕ) (γ₁ : GName) (ns : List ℕ) (b₂ o₂ : ℕ) (γ₂ : GName) (zs₀ : List ℕ)
@@ -158,7 +159,7 @@ module _ {M : Type 1} (𝓤 : URA M) (H : Heap 𝓤) (A : Atoms 𝓤) (W : Given
       owned ! Ans (Is Ans) (EL.makes E.the-type E′.the-plain 𝓤 H A) r _ is $ done !
 
   -- ---- what each callee's triple binds outside, and that what is had gives its `pre`
-  module _ (l : List ℕ) (m : Pen) (u : Val) where
+  module _ (l : List ℕ) (m : Pass) (u : Val) where
     abbrev to-each : ℕ → GName → Each 𝓤 H A mem run .Ghost
     to-each ν δ = (((κ₀, (κ₁, (ν ∷ [], tt))), (q₀, (q₁, (fullShare, tt))), tt, (x₀, (x₁, (x₂ δ l, (m, tt)))), (sliceVal (b₀, o₀) n ∷ [], (sliceVal (b₁, o₁) (length ns) ∷ [], (s₂ (length l), (u ∷ [], tt))))), tt)
 
@@ -182,27 +183,27 @@ module _ {M : Type 1} (𝓤 : URA M) (H : Heap 𝓤) (A : Atoms 𝓤) (W : Given
         owned ! Q (Is Q) (LL.makes S.the-type S′.the-plain 𝓤 H A) m _ is $ fjoin ! $ move ! (1 ∷ 0 ∷ []) $ join ! $ frame ! $ done !
 
   module _ (r : Encoded) (u : Val) where
-    abbrev to-writer : Writer 𝓤 H A mem run .Ghost
-    to-writer = ((tt, tt, tt, (r, tt), (u ∷ [], tt)), tt)
+    abbrev to-writing : WritingPass 𝓤 H A mem run .Ghost
+    to-writing = ((tt, tt, tt, (r, tt), (u ∷ [], tt)), tt)
 
-    goes-writer : Is Ans r (u ∷ []) → ent 𝓤 (emp 𝓤) (Writer 𝓤 H A mem run .pre to-writer)
-    goes-writer is =
+    goes-writing : Is Ans r (u ∷ []) → ent 𝓤 (emp 𝓤) (WritingPass 𝓤 H A mem run .pre to-writing)
+    goes-writing is =
         qed W [] ∵ nothing ! $ nothing ! $ owned ! Ans (Is Ans) (EL.makes E.the-type E′.the-plain 𝓤 H A) r _ is $ fjoin ! $ move ! (1 ∷ 0 ∷ []) $ join ! $ frame ! $ done !
 
   abbrev τ₂ : Ty
   τ₂ = sliceTy (tyRef (named 2) mut (tyInt w8))
 
-  -- a pen and an answer have their MIR types, written out
+  -- a pass and an answer have their MIR types, written out
   abbrev τC : Ty
   τC = tyStruct (S.struct .name) (tcons (tyInt w64) (tcons tyBool (tcons tyBool tnil)))
 
-  typed-pen : (r : Pen) (u : Val) → Is Q r (u ∷ []) → Holds (hasTy τC u) × WT u
-  typed-pen r u is = LL.lawful S.the-type S′.the-laws 𝓤 H A W .typed r _ is .0
+  typed-pass : (r : Pass) (u : Val) → Is Q r (u ∷ []) → Holds (hasTy τC u) × WT u
+  typed-pass r u is = LL.lawful S.the-type S′.the-laws 𝓤 H A W .typed r _ is .0
 
   typed-answer : (r : Encoded) (u : Val) → Is Ans r (u ∷ []) → Holds (hasTy E′.mir u) × WT u
   typed-answer r u is = EL.lawful E.the-type E′.the-laws 𝓤 H A W tt .typed r _ is .0
 
-  module _ (𝓣 : Tables 𝓤 H) (known-b : Triple 𝓤 (𝓣 .C #row-fields·begin) (Begin 𝓤 H A mem run)) (known-p : Triple 𝓤 (𝓣 .C #row-fields·each) (Each 𝓤 H A mem run)) (known-w : Triple 𝓤 (𝓣 .C #row-fields·writer) (Writer 𝓤 H A mem run)) where
+  module _ (𝓣 : Tables 𝓤 H) (known-b : Triple 𝓤 (𝓣 .C #row-fields·begin) (Begin 𝓤 H A mem run)) (known-p : Triple 𝓤 (𝓣 .C #row-fields·each) (Each 𝓤 H A mem run)) (known-w : Triple 𝓤 (𝓣 .C #row-fields·writing-pass) (WritingPass 𝓤 H A mem run)) where
     walk : ent 𝓤 (onEntry 𝓤 H A f.signature (κ₀, (κ₁, (κ₂, tt))) (q₀, (q₁, (q₂, tt))) a vals) (WpFn 𝓤 H (𝓣 .C) (𝓣 .Λ) code.function (sliceVal (b₀, o₀) n ∷ sliceVal (b₁, o₁) (length ns) ∷ sliceVal (b₂, o₂) (length zs₀) ∷ []) Post)
     walk =
         qed W ((‵ (flft κ₀ q₀) ⊛ (‵ (flft κ₁ q₁) ⊛ (‵ (flft κ₂ q₂) ⊛ ‵ ftrue))) ∷ ‵ (owns (ShrSlice (named 0) κ₀ R ∷ ShrSlice (named 1) κ₁ u8 ∷ MutSlice (named 2) κ₂ u8 ∷ []) a vals) ∷ []) ∵
@@ -219,18 +220,18 @@ module _ {M : Type 1} (𝓤 : URA M) (H : Heap 𝓤) (A : Atoms 𝓤) (W : Given
         lft-new ! tt (λ ν1. move ! (1 ∷ 2 ∷ []) $
         use2 W (later (some (λ (δ : GName). ‵ (MutSlice (named 0) (ν1 ∷ []) u8 .own (x₂ δ zs₀) (s₂ (length zs₀))) ⊛ ‵ (LentAgain u8 κ₂ (ν1 ∷ []) q₂ γ₂ b₂ o₂ δ zs₀)))) (lends-again u8 κ₂ (ν1 ∷ []) q₂ γ₂ b₂ o₂ 𝓤 H A W (named 2) (named 0) zs₀) $ await ! tt $ pick ! (λ δ1. split ! $
         move ! (3 ∷ []) $ use1 W (‵ Own₀ ⊛ ‵ Own₀) (shr-slice-copy 𝓤 H A W (named 0) κ₀ R .twice x₀ _) $ split ! $ move ! (6 ∷ []) $ use1 W (‵ Own₁ ⊛ ‵ Own₁) (shr-slice-copy 𝓤 H A W (named 1) κ₁ u8 .twice x₁ _) $ split ! $
-        move ! (7 ∷ 8 ∷ 6 ∷ 2 ∷ 0 ∷ 4 ∷ []) $ group ! 6 $ use1 W (raw (Each 𝓤 H A mem run .pre (to-each zs₀ blank (low blank) ν1 δ1))) (goes-each zs₀ blank (low blank) good-blank ν1 δ1) $
+        move ! (7 ∷ 8 ∷ 6 ∷ 2 ∷ 0 ∷ 4 ∷ []) $ group ! 6 $ use1 W (raw (Each 𝓤 H A mem run .pre (to-each zs₀ measuringPass (low measuringPass) ν1 δ1))) (goes-each zs₀ measuringPass (low measuringPass) good-measuring ν1 δ1) $
         -- [pre; Own₁; Own₀; LentAgain 3; _15 4; …; _0 34]
-        calls-at ! (fmOf 𝓤 H (W .laws) 𝓣) (Each 𝓤 H A mem run) known-p (to-each zs₀ blank (low blank) ν1 δ1)
+        calls-at ! (fmOf 𝓤 H (W .laws) 𝓣) (Each 𝓤 H A mem run) known-p (to-each zs₀ measuringPass (low measuringPass) ν1 δ1)
         (and-then ! (load ! (from ! (stop !)) (look ! 32 refl)) (and-then ! (load ! (from ! (stop !)) (look ! 30 refl)) (and-then ! (load ! (from ! (stop !)) (look ! 18 refl)) (and-then ! (load ! (from ! (stop !)) (look ! 26 refl)) (no-more !))))) (λ w1.
-        use1 W (later (some (λ (r : Pen). ((‵ (flft κ₀ q₀) ⊛ (‵ (flft κ₁ q₁) ⊛ (‵ (flft (ν1 ∷ []) fullShare) ⊛ ‵ ftrue))) ⊛ ‵ (Q .own r (w1 ∷ [])))
-        ⊛ raw (ensured 𝓤 H A p.ended (p.clauses 𝓤 H A mem run) (κ₀, (κ₁, (ν1 ∷ [], tt))) (x₀, (x₁, (x₂ δ1 zs₀, (blank, tt)))) tt r)))) (id⊢ 𝓤 _) $ await ! tt $ pick ! (λ r1. split ! $ move ! (1 ∷ []) $
-        use1 W (some (λ (ws : Unit {0} × (Unit {0} × (List ℕ × (Unit {0} × Unit {0})))). ‵ (lasts p.ended (κ₀, (κ₁, (ν1 ∷ [], tt))) (x₀, (x₁, (x₂ δ1 zs₀, (blank, tt)))) ws)
-        ⊛ raw (fact 𝓤 ((r1 ≡ allPen ys ns blank) × (ws .1 .1 .0 ≡ allOut ys ns zs₀ blank))))) (id⊢ 𝓤 _) $ pick ! (λ ws1.
-        split ! $ move ! (1 ∷ []) $ heard ! ((r1 ≡ allPen ys ns blank) × (ws1 .1 .1 .0 ≡ allOut ys ns zs₀ blank)) (λ e1. fsplit ! $ lose ! $ fsplit ! $ lose ! $ fsplit ! $ fsplit ! $ move ! (1 ∷ []) $ feqL ! (λ same1.
+        use1 W (later (some (λ (r : Pass). ((‵ (flft κ₀ q₀) ⊛ (‵ (flft κ₁ q₁) ⊛ (‵ (flft (ν1 ∷ []) fullShare) ⊛ ‵ ftrue))) ⊛ ‵ (Q .own r (w1 ∷ [])))
+        ⊛ raw (ensured 𝓤 H A p.ended (p.clauses 𝓤 H A mem run) (κ₀, (κ₁, (ν1 ∷ [], tt))) (x₀, (x₁, (x₂ δ1 zs₀, (measuringPass, tt)))) tt r)))) (id⊢ 𝓤 _) $ await ! tt $ pick ! (λ r1. split ! $ move ! (1 ∷ []) $
+        use1 W (some (λ (ws : Unit {0} × (Unit {0} × (List ℕ × (Unit {0} × Unit {0})))). ‵ (lasts p.ended (κ₀, (κ₁, (ν1 ∷ [], tt))) (x₀, (x₁, (x₂ δ1 zs₀, (measuringPass, tt)))) ws)
+        ⊛ raw (fact 𝓤 ((r1 ≡ allPass ys ns measuringPass) × (ws .1 .1 .0 ≡ allOut ys ns zs₀ measuringPass))))) (id⊢ 𝓤 _) $ pick ! (λ ws1.
+        split ! $ move ! (1 ∷ []) $ heard ! ((r1 ≡ allPass ys ns measuringPass) × (ws1 .1 .1 .0 ≡ allOut ys ns zs₀ measuringPass)) (λ e1. fsplit ! $ lose ! $ fsplit ! $ lose ! $ fsplit ! $ fsplit ! $ move ! (1 ∷ []) $ feqL ! (λ same1.
         move ! (2 ∷ []) $ split ! $ move ! (1 ∷ []) $ peeks ! Q (Is Q) (shows 𝓤 H A Q) r1 (w1 ∷ []) (λ is1.
         -- [the result; the tokens; finally; true; Own₁ 4; Own₀ 5; LentAgain 6; _15 7; …; _0 37]
-        land ! (from ! (stop !)) (init ! 27 refl (typed-pen r1 w1 is1)) $
+        land ! (from ! (stop !)) (init ! 27 refl (typed-pass r1 w1 is1)) $
         lose ! $ split ! $ move ! (1 ∷ []) $ split ! $ move ! (1 ∷ []) $ split ! $
         -- [ν; true; κ₁ 2; κ₀ 3; finally 4; true; Own₁ 6; Own₀ 7; LentAgain 8; _15 9; …]
         lft-end ! tt $ move ! (0 ∷ 8 ∷ 4 ∷ []) $
@@ -255,16 +256,16 @@ module _ {M : Type 1} (𝓤 : URA M) (H : Heap 𝓤) (A : Atoms 𝓤) (W : Given
         lose ! $ split ! $ lft-end ! tt $ move ! (0 ∷ 4 ∷ 2 ∷ []) $
         use3 W (later (‵ (Own₂ (ws2 .1 .1 .0) (length (ws1 .1 .1 .0))) ⊛ ‵ (flft κ₂ q₂))) (comes-back u8 κ₂ (ν2 ∷ []) q₂ γ₂ b₂ o₂ 𝓤 H A W (named 2) (named 0) (ws1 .1 .1 .0) δ2 (ws2 .1 .1 .0) (room-at (ws1 .1 .1 .0) same1) same2) $ await ! tt $ split ! $
         move ! (2 ∷ []) $ lose ! $ move ! (2 ∷ []) $ lose ! $ rewrite ! 0 (λ (m : ℕ). ‵ (Own₂ (ws2 .1 .1 .0) m)) (sym same2) refl $ rewrite ! 30 (λ (m : ℕ). ‵ (fat fullShare τ₂ l₃ 0 (sliceVal (b₂, o₂) m))) (sym same2) refl $
-        -- ---- the pen of the pass that writes
+        -- ---- the pass that writes, at its start
         assigns ! (addr ! (from ! (fld ! refl (hop ! (look-in ! 30 (sub ! 0 refl (whole !))) (stop !))))) (from ! (stop !)) (init ! 10 refl (tt, tt)) $
         assigns ! (agg ! (and-then ! (load ! (from ! (stop !)) (look ! 10 refl)) (and-then ! (load ! (from ! (fld ! refl (stop !))) (look-in ! 30 (sub ! 1 refl (whole !)))) (no-more !)))) (from ! (stop !)) (init ! 8 refl (tt, (tt, (record { fits = (room-at (ws2 .1 .1 .0) (same2 ∙ same1)) .0 }, tt)))) $
-        use0 W (raw (Writer 𝓤 H A mem run .pre (to-writer r2 w2))) (goes-writer r2 w2 is2) $
-        calls-at ! (fmOf 𝓤 H (W .laws) 𝓣) (Writer 𝓤 H A mem run) known-w (to-writer r2 w2) (and-then ! (load ! (from ! (stop !)) (look ! 25 refl)) (no-more !)) (λ w3.
-        use1 W (later (some (λ (r : Pen). (‵ ftrue ⊛ ‵ (Q .own r (w3 ∷ []))) ⊛ raw (ensured 𝓤 H A w.ended (w.clauses 𝓤 H A mem run) tt (r2, tt) tt r)))) (id⊢ 𝓤 _) $ await ! tt $ pick ! (λ r3. split ! $ move ! (1 ∷ []) $
-        use1 W (some (λ (ws : Unit {0} × Unit {0}). ‵ (lasts w.ended tt (r2, tt) ws) ⊛ raw (fact 𝓤 (r3 ≡ writer r2)))) (id⊢ 𝓤 _) $ pick ! (λ ws3.
-        split ! $ move ! (1 ∷ []) $ heard ! (r3 ≡ writer r2) (λ e3. lose ! $ split ! $ move ! (1 ∷ []) $ peeks ! Q (Is Q) (shows 𝓤 H A Q) r3 (w3 ∷ []) (λ is3.
+        use0 W (raw (WritingPass 𝓤 H A mem run .pre (to-writing r2 w2))) (goes-writing r2 w2 is2) $
+        calls-at ! (fmOf 𝓤 H (W .laws) 𝓣) (WritingPass 𝓤 H A mem run) known-w (to-writing r2 w2) (and-then ! (load ! (from ! (stop !)) (look ! 25 refl)) (no-more !)) (λ w3.
+        use1 W (later (some (λ (r : Pass). (‵ ftrue ⊛ ‵ (Q .own r (w3 ∷ []))) ⊛ raw (ensured 𝓤 H A w.ended (w.clauses 𝓤 H A mem run) tt (r2, tt) tt r)))) (id⊢ 𝓤 _) $ await ! tt $ pick ! (λ r3. split ! $ move ! (1 ∷ []) $
+        use1 W (some (λ (ws : Unit {0} × Unit {0}). ‵ (lasts w.ended tt (r2, tt) ws) ⊛ raw (fact 𝓤 (r3 ≡ writingPass r2)))) (id⊢ 𝓤 _) $ pick ! (λ ws3.
+        split ! $ move ! (1 ∷ []) $ heard ! (r3 ≡ writingPass r2) (λ e3. lose ! $ split ! $ move ! (1 ∷ []) $ peeks ! Q (Is Q) (shows 𝓤 H A Q) r3 (w3 ∷ []) (λ is3.
         -- [the result; true; Own₂ 2; …; _15 8; …]
-        land ! (from ! (stop !)) (init ! 8 refl (typed-pen r3 w3 is3)) $ lose ! $ lose ! $
+        land ! (from ! (stop !)) (init ! 8 refl (typed-pass r3 w3 is3)) $ lose ! $ lose ! $
         -- ---- the pass that writes
         lft-new ! tt (λ ν4. move ! (1 ∷ 2 ∷ []) $
         use2 W (later (some (λ (δ : GName). ‵ (MutSlice (named 0) (ν4 ∷ []) u8 .own (x₂ δ (ws2 .1 .1 .0)) (s₂ (length (ws2 .1 .1 .0)))) ⊛ ‵ (LentAgain u8 κ₂ (ν4 ∷ []) q₂ γ₂ b₂ o₂ δ (ws2 .1 .1 .0))))) (lends-again u8 κ₂ (ν4 ∷ []) q₂ γ₂ b₂ o₂ 𝓤 H A W (named 2) (named 0) (ws2 .1 .1 .0)) $ await ! tt $ pick ! (λ δ4. split ! $
@@ -273,14 +274,14 @@ module _ {M : Type 1} (𝓤 : URA M) (H : Heap 𝓤) (A : Atoms 𝓤) (W : Given
         -- [pre; Own₁; Own₀; LentAgain 3; _15 4; …; _0 34]
         calls-at ! (fmOf 𝓤 H (W .laws) 𝓣) (Each 𝓤 H A mem run) known-p (to-each (ws2 .1 .1 .0) r3 w3 ν4 δ4)
         (and-then ! (load ! (from ! (stop !)) (look ! 32 refl)) (and-then ! (load ! (from ! (stop !)) (look ! 30 refl)) (and-then ! (load ! (from ! (stop !)) (look ! 6 refl)) (and-then ! (load ! (from ! (stop !)) (look ! 4 refl)) (no-more !))))) (λ w4.
-        use1 W (later (some (λ (r : Pen). ((‵ (flft κ₀ q₀) ⊛ (‵ (flft κ₁ q₁) ⊛ (‵ (flft (ν4 ∷ []) fullShare) ⊛ ‵ ftrue))) ⊛ ‵ (Q .own r (w4 ∷ [])))
+        use1 W (later (some (λ (r : Pass). ((‵ (flft κ₀ q₀) ⊛ (‵ (flft κ₁ q₁) ⊛ (‵ (flft (ν4 ∷ []) fullShare) ⊛ ‵ ftrue))) ⊛ ‵ (Q .own r (w4 ∷ [])))
         ⊛ raw (ensured 𝓤 H A p.ended (p.clauses 𝓤 H A mem run) (κ₀, (κ₁, (ν4 ∷ [], tt))) (x₀, (x₁, (x₂ δ4 (ws2 .1 .1 .0), (r3, tt)))) tt r)))) (id⊢ 𝓤 _) $ await ! tt $ pick ! (λ r4. split ! $ move ! (1 ∷ []) $
         use1 W (some (λ (ws : Unit {0} × (Unit {0} × (List ℕ × (Unit {0} × Unit {0})))). ‵ (lasts p.ended (κ₀, (κ₁, (ν4 ∷ [], tt))) (x₀, (x₁, (x₂ δ4 (ws2 .1 .1 .0), (r3, tt)))) ws)
-        ⊛ raw (fact 𝓤 ((r4 ≡ allPen ys ns r3) × (ws .1 .1 .0 ≡ allOut ys ns (ws2 .1 .1 .0) r3))))) (id⊢ 𝓤 _) $ pick ! (λ ws4.
-        split ! $ move ! (1 ∷ []) $ heard ! ((r4 ≡ allPen ys ns r3) × (ws4 .1 .1 .0 ≡ allOut ys ns (ws2 .1 .1 .0) r3)) (λ e4. fsplit ! $ lose ! $ fsplit ! $ lose ! $ fsplit ! $ fsplit ! $ move ! (1 ∷ []) $ feqL ! (λ same4.
+        ⊛ raw (fact 𝓤 ((r4 ≡ allPass ys ns r3) × (ws .1 .1 .0 ≡ allOut ys ns (ws2 .1 .1 .0) r3))))) (id⊢ 𝓤 _) $ pick ! (λ ws4.
+        split ! $ move ! (1 ∷ []) $ heard ! ((r4 ≡ allPass ys ns r3) × (ws4 .1 .1 .0 ≡ allOut ys ns (ws2 .1 .1 .0) r3)) (λ e4. fsplit ! $ lose ! $ fsplit ! $ lose ! $ fsplit ! $ fsplit ! $ move ! (1 ∷ []) $ feqL ! (λ same4.
         move ! (2 ∷ []) $ split ! $ move ! (1 ∷ []) $ peeks ! Q (Is Q) (shows 𝓤 H A Q) r4 (w4 ∷ []) (λ is4.
         -- [the result; the tokens; finally; true; Own₁ 4; Own₀ 5; LentAgain 6; _15 7; …; _0 37]
-        land ! (from ! (stop !)) (init ! 13 refl (typed-pen r4 w4 is4)) $
+        land ! (from ! (stop !)) (init ! 13 refl (typed-pass r4 w4 is4)) $
         lose ! $ split ! $ move ! (1 ∷ []) $ split ! $ move ! (1 ∷ []) $ split ! $
         -- [ν; true; κ₁ 2; κ₀ 3; finally 4; true; Own₁ 6; Own₀ 7; LentAgain 8; _15 9; …]
         lft-end ! tt $ move ! (0 ∷ 8 ∷ 4 ∷ []) $
@@ -295,11 +296,11 @@ module _ {M : Type 1} (𝓤 : URA M) (H : Heap 𝓤) (A : Atoms 𝓤) (W : Given
         room-at : (l : List ℕ) → length l ≡ length zs₀ → Room u8 (length l)
         room-at l same = subst (Room u8) (sym same) room₂
 
-        small : length zs₀ < 18446744073709551615
+        small : length zs₀ < largest
         small = omega (arith, room₂ .1)
 
 module _ {M : Type 1} (𝓤 : URA M) (H : Heap 𝓤) (A : Atoms 𝓤) (W : Given 𝓤 H A) (mem : Memory → SProp 𝓤) (run : Routine → Fun 𝓤) (𝓣 : Tables 𝓤 H)
-    (known-b : Triple 𝓤 (𝓣 .C #row-fields·begin) (Begin 𝓤 H A mem run)) (known-p : Triple 𝓤 (𝓣 .C #row-fields·each) (Each 𝓤 H A mem run)) (known-w : Triple 𝓤 (𝓣 .C #row-fields·writer) (Writer 𝓤 H A mem run)) where
+    (known-b : Triple 𝓤 (𝓣 .C #row-fields·begin) (Begin 𝓤 H A mem run)) (known-p : Triple 𝓤 (𝓣 .C #row-fields·each) (Each 𝓤 H A mem run)) (known-w : Triple 𝓤 (𝓣 .C #row-fields·writing-pass) (WritingPass 𝓤 H A mem run)) where
   row-description-walks : Walks 𝓤 H A f.ended stayed (WpFn 𝓤 H (𝓣 .C) (𝓣 .Λ) code.function) (f.clauses 𝓤 H A mem run)
   row-description-walks = walked 𝓤 H A f.ended stayed (f.clauses 𝓤 H A mem run) (WpFn 𝓤 H (𝓣 .C) (𝓣 .Λ) code.function) (λ κs. (slice-vals, (slice-vals, (slice-vals, tt))))
       (λ κs. (shr-slice-tells (named 0) (κs .0) R, (shr-slice-tells (named 1) (κs .1 .0) u8, (mut-slice-tells (named 2) (κs .1 .1 .0) u8, tt))))
@@ -319,4 +320,4 @@ row-description-spec 𝓤 H 𝓜 𝓖 𝓡 =
     (row-description-meets 𝓤 H (𝓖 .A) (givenOf 𝓤 H 𝓜 𝓖) (𝓜 .mem) (𝓡 .run) (tablesOf 𝓤 H 𝓜 (tables 𝓤 H 𝓜 𝓡 code.env))
     (cited 𝓤 H (Begin 𝓤 H (𝓖 .A) (𝓜 .mem) (𝓡 .run)) 𝓜 𝓡 code.env #row-fields·begin b-def.routine code.calls-row-fields·begin (b-thm.met 𝓤 H 𝓜 𝓖 𝓡))
     (cited 𝓤 H (Each 𝓤 H (𝓖 .A) (𝓜 .mem) (𝓡 .run)) 𝓜 𝓡 code.env #row-fields·each p-def.routine code.calls-row-fields·each (p-thm.met 𝓤 H 𝓜 𝓖 𝓡))
-    (cited 𝓤 H (Writer 𝓤 H (𝓖 .A) (𝓜 .mem) (𝓡 .run)) 𝓜 𝓡 code.env #row-fields·writer w-def.routine code.calls-row-fields·writer (w-thm.met 𝓤 H 𝓜 𝓖 𝓡)))
+    (cited 𝓤 H (WritingPass 𝓤 H (𝓖 .A) (𝓜 .mem) (𝓡 .run)) 𝓜 𝓡 code.env #row-fields·writing-pass w-def.routine code.calls-row-fields·writing-pass (w-thm.met 𝓤 H 𝓜 𝓖 𝓡)))

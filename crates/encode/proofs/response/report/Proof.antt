@@ -10,9 +10,9 @@ use Rattle.protocol.specs.Encode.{errorFieldsGiven}
 use Rattle.protocol.specs.Kinds as K
 use Rattle.writers.specs.Given.{isSome}
 use Rattle.writers.proofs.Encoding.{Judged, judged, roomOf, refused, finished}
-use Rattle.writers.proofs.Lists.{and-left}
+use Rattle.protocol.proofs.Basics.{and-left}
 use Rattle.encode.specs.Given as G
-use Rattle.encode.proofs.GivenMeasures as M
+use Rattle.encode.proofs.Measures as M
 use Rattle.encode.proofs.response.report.Statement.{statement}
 use Rattle.encode.proofs.response.report.Tie as tie
 

@@ -3,7 +3,7 @@ use mathlib.Core.Path.{sym, _∙_}
 use borrow.Author.Needs.{needs}
 use lib.ListN.{length}
 use lib.Seq.{length-take-le}
-use Rattle.reader.proofs.Rows.{IsRow, is-row, kept}
+use Rattle.reader.proofs.RowRoom.{IsRow, is-row, kept}
 use Rattle.reader.proofs.row.data_row.Statement.{statement}
 use Rattle.reader.proofs.row.data_row.Tie as tie
 

@@ -2,7 +2,7 @@
 use mathlib.Core.Path.{refl}
 use borrow.Author.Needs.{needs}
 use mir.Syntax.{w32}
-use Rattle.codec.proofs.Signs.{back}
+use Rattle.protocol.proofs.Basics.{back}
 use Rattle.reader.specs.Row.{entryOf}
 use Rattle.reader.proofs.row.entry_at.Statement.{statement}
 use Rattle.reader.proofs.row.entry_at.Tie as tie

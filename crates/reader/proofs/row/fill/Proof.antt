@@ -8,7 +8,7 @@ use lib.ListN.{length}
 use lib.Seq.{sets}
 use mir.Syntax.{w32}
 use Rattle.protocol.specs.Reading.{readValue}
-use Rattle.codec.proofs.Signs.{back}
+use Rattle.protocol.proofs.Basics.{back}
 use Rattle.reader.specs.Row.{Place}
 use Rattle.reader.proofs.Places.{length-fits, left, begun, turn, stopped, ended, laid}
 use Rattle.reader.proofs.row.fill.Statement.{statement}

@@ -4,7 +4,7 @@ use borrow.Author.Needs.{needs}
 use Rattle.protocol.specs.Kinds.{find, the-table}
 use Rattle.protocol.specs.Views.{numbered}
 use Rattle.reader.specs.Row.{rowFits}
-use Rattle.reader.proofs.Rows.{row-in, refused, too-few, enough}
+use Rattle.reader.proofs.RowRoom.{row-in, refused, too-few, enough}
 use Rattle.reader.proofs.row.row_in.Statement.{statement}
 use Rattle.reader.proofs.row.row_in.Tie as tie
 

@@ -1,31 +1,18 @@
 -- `test_reader::through::half_through` meets its contract: the walk through a reader, with `half`.
-use mathlib.Core.Path.{_≡_}
-use mathlib.Core.List.{List}
-use Prim.Native.Nat.{ℕ}
-use contract.Running.{givenOf, tables}
+use contract.Running.{givenOf}
 use denote.Enum.Laws as EL
-use denote.Triple.Spec.{tripleOf}
-use denote.Triple.Table.{entered, cited}
-use Rattle.protocol.specs.Reading.{readNumber}
-use Rattle.codec.specs.Answers.{halfRead}
-use Rattle.codec.specs.declared.Half.{Half}
 use Rattle.codec.proofs.Half as S
 use Rattle.codec.proofs.Half.Laws as S′
 use Rattle.reader.proofs.half.Symbol as called
 use Rattle.reader.proofs.half.Met as called-thm
+use Rattle.reader.proofs.Claims.{HalfAt}
 use Rattle.test_reader.proofs.through.half_through.Key.{name as #half-through}
-use Rattle.test_reader.proofs.through.half_through as f
 use Rattle.test_reader.proofs.through.half_through.Statement as stated
 use Rattle.test_reader.proofs.through.half_through.Code as code
-use Rattle.test_reader.proofs.Walk.{Reads, through-meets}
-
-abbrev Claim : List ℕ → ℕ → Half → Type 0
-Claim frame at r = halfRead at r ≡ readNumber 2 frame at
+use Rattle.test_reader.proofs.Walk.{through-entered}
 
 pub half-through-spec : {M : Type 1} → stated.statement M
 unfolding code.routine
 half-through-spec 𝓤 H 𝓜 𝓖 𝓡 =
-    entered 𝓤 H (tripleOf 𝓤 H (𝓖 .A) f.signature (f.spec 𝓤 H (𝓖 .A) (𝓜 .mem) (𝓡 .run)))
-    (tables 𝓤 H 𝓜 𝓡 code.env .C) (tables 𝓤 H 𝓜 𝓡 code.env .Λ) #half-through code.function (code.unfolded 𝓤 H 𝓜 𝓡)
-    (through-meets called.name S′.mir S.the-row Claim 𝓤 H 𝓜 𝓖 𝓡 (λ r u is. EL.lawful S.the-type S′.the-laws 𝓤 H (𝓖 .A) (givenOf 𝓤 H 𝓜 𝓖) tt .typed r _ is .0) code.env code.calls-reader·new code.calls-reader·to
-    (cited 𝓤 H (Reads 𝓤 H (𝓖 .A) S.the-row Claim) 𝓜 𝓡 code.env called.name called.routine code.calls-reader·half (called-thm.met 𝓤 H 𝓜 𝓖 𝓡)))
+    through-entered called.name S′.mir S.the-row HalfAt 𝓤 H 𝓜 𝓖 𝓡 (λ r u is. EL.lawful S.the-type S′.the-laws 𝓤 H (𝓖 .A) (givenOf 𝓤 H 𝓜 𝓖) tt .typed r _ is .0)
+    code.env #half-through (code.unfolded 𝓤 H 𝓜 𝓡) code.calls-reader·new code.calls-reader·to called.routine code.calls-reader·half (called-thm.met 𝓤 H 𝓜 𝓖 𝓡)

@@ -1,6 +1,6 @@
 -- When a message is no row, and when there is room for one.
 use Prim.Native.Nat.{ℕ, _≤_, _<_}
-use mathlib.Core.Bool.{Bool, true, false, cond, not, _&&_}
+use mathlib.Core.Bool.{Bool, true, false, cond, not, _&&_, _||_, and-false, false≢true}
 use mathlib.Core.List.{List, [], _∷_}
 use mathlib.Core.Logic.{_⊎_, inl, inr}
 use mathlib.Core.Option.{Option, some, none}
@@ -9,7 +9,7 @@ use native.Mathlib.Omega.{arith}
 use borrow.Author.Tests.{leb-true, le-leb, lt-leb}
 use lib.Dec.{T, eqb, leb}
 use lib.IntN.{ℤ}
-use lib.ListN.{length, take}
+use lib.ListN.{length}
 use types.Run.{OneOf}
 use denote.Enum.Declared.{tagOf}
 use Rattle.protocol.specs.declared.Decoded.the-variants as D
@@ -25,11 +25,11 @@ use Rattle.protocol.specs.Fields.{Slot}
 use Rattle.protocol.specs.Kinds.{Kind, Mode, modes, find, the-table, dataRow}
 use Rattle.protocol.specs.Views.{view, kindNumber, isKind, numbered}
 use Rattle.protocol.proofs.Find.{All}
-use Rattle.protocol.proofs.Framed.{framed-is, framed-ends}
+use Rattle.protocol.proofs.Framed.{record-size}
+use Rattle.protocol.proofs.Basics.{zero-one}
 use Rattle.protocol.proofs.Message as Msg
 use Rattle.protocol.proofs.Views.{made, each-row, places, passes}
-use Rattle.protocol.specs.Decode.{Header, more, refuse, framed, headerOf, bodyOf, decodedBy, decodeBy, decodeOf}
-use Rattle.protocol.specs.Reading.{Read, got, bad}
+use Rattle.protocol.specs.Decode.{decodeOf}
 use Rattle.protocol.specs.Refusals.{noSuchElement, outputTooShort}
 use Rattle.protocol.specs.Rules.{rulesOf}
 use Rattle.reader.specs.declared.row.Row.the-variants as R
@@ -77,7 +77,7 @@ row-made k s e = subst (λ (k : Kind). (s : Each Slot (k .body)) → (row : Data
 
 told-by : {P : Type 0} (t : Bool) (x : Option ListSlot) (l : ListSlot) → cond t x none ≡ some l → If t P → P
 told-by true x l e h = h
-told-by false x l e h = let z : _≡_ {A = ℕ} 0 1 = cc in absurd (omega arith)
+told-by false x l e h = absurd (zero-one cc)
 
 pub data-row : (m : Message) (l : ListSlot) → rowIn m ≡ some l → (row : DataRow) × (m ≡ M.DataRow row) × (row .«data» ≡ l)
 unfolding rowIn isKind
@@ -93,10 +93,6 @@ refused m h consumed starts lengths = rw (no-row m h) refl
 
 -- ---- the room for a row
 
-and-false : (a : Bool) → a && false ≡ false
-and-false true = refl
-and-false false = refl
-
 module _ (l : ListSlot) (consumed starts lengths : ℕ) where
   pub too-few : (starts < l .count) ⊎ (lengths < l .count) → R.Refused outputTooShort 0 ≡ rowFits (some l) consumed starts lengths
   unfolding rowFits
@@ -109,16 +105,11 @@ module _ (l : ListSlot) (consumed starts lengths : ℕ) where
 
 -- ---- an answer that is a row
 
--- the frame that was decoded is within the buffer
-decoded-by : (rules : Rules) (s : List ℕ) (h : Header) (m : Message) (n : ℕ) → headerOf rules s ≡ h → decodeBy rules s h ≡ D.Record m n → n ≤ length s
-unfolding decodeBy decodedBy
-decoded-by rules s more m n e d = let z : _≡_ {A = ℕ} 0 1 = cc in absurd (omega arith)
-decoded-by rules s (refuse number place) m n e d = let z : _≡_ {A = ℕ} 0 1 = cc in absurd (omega arith)
-decoded-by rules s (framed k start end) m n e d = rw (← consumed (bodyOf rules k (take end s) start) d) (framed-ends rules s k start end (framed-is rules s k start end e) .1)
-  where
-    consumed : (b : Read Message) → decodedBy b end ≡ D.Record m n → end ≡ n
-    consumed (got x next) q = cc
-    consumed (bad number place) q = let z : _≡_ {A = ℕ} 0 1 = cc in absurd (omega arith)
+is-refused : {l : ListSlot} {n number place : ℕ} → R.Is l n ≡ R.Refused number place → ⊥
+is-refused e = zero-one cc
+
+is-waiting : {l : ListSlot} {n : ℕ} → R.Is l n ≡ R.NeedMore → ⊥
+is-waiting e = zero-one cc
 
 pub record IsRow (s : List ℕ) (starts lengths : ℕ) (l : ListSlot) (n : ℕ) : Type 0 where
   pub within : n ≤ length s
@@ -127,21 +118,21 @@ pub record IsRow (s : List ℕ) (starts lengths : ℕ) (l : ListSlot) (n : ℕ) 
 
 fits-by : (o : Option ListSlot) (consumed starts lengths : ℕ) (l : ListSlot) (n : ℕ) → R.Is l n ≡ rowFits o consumed starts lengths → (consumed ≡ n) × (l .count ≤ starts) × (l .count ≤ lengths)
 unfolding rowFits
-fits-by none consumed starts lengths l n e = let z : _≡_ {A = ℕ} 0 1 = cc in absurd (omega arith)
+fits-by none consumed starts lengths l n e = absurd (is-refused e)
 fits-by (some x) consumed starts lengths l n e = by (leb (x .count) starts) (leb (x .count) lengths) refl refl e
   where
     by : (a b : Bool) → leb (x .count) starts ≡ a → leb (x .count) lengths ≡ b → R.Is l n ≡ cond (a && b) (R.Is x consumed) (R.Refused outputTooShort 0) → (consumed ≡ n) × (l .count ≤ starts) × (l .count ≤ lengths)
     by true true ea eb q = let same : l ≡ x = cc in (cc, rw same (leb-true _ _ ea), rw same (leb-true _ _ eb))
-    by true false ea eb q = let z : _≡_ {A = ℕ} 0 1 = cc in absurd (omega arith)
-    by false b ea eb q = let z : _≡_ {A = ℕ} 0 1 = cc in absurd (omega arith)
+    by true false ea eb q = absurd (is-refused q)
+    by false b ea eb q = absurd (is-refused q)
 
 row-by : (rules : Rules) (s : List ℕ) (d : Decoded) (starts lengths : ℕ) (l : ListSlot) (n : ℕ) → decodeOf rules s ≡ d → R.Is l n ≡ rowBy d starts lengths → IsRow s starts lengths l n
-unfolding rowBy decodeOf
+unfolding rowBy
 row-by rules s (D.Record m k) starts lengths l n e q =
     let f = fits-by (rowIn m) k starts lengths l n q in
-    record { within = rw (← f .0) (decoded-by rules s (headerOf rules s) m k refl e); forStarts = f .1; forLengths = f .2 }
-row-by rules s D.NeedMore starts lengths l n e q = let z : _≡_ {A = ℕ} 0 1 = cc in absurd (omega arith)
-row-by rules s (D.Refused number place) starts lengths l n e q = let z : _≡_ {A = ℕ} 0 1 = cc in absurd (omega arith)
+    record { within = rw (← f .0) (record-size rules s e .1); forStarts = f .1; forLengths = f .2 }
+row-by rules s D.NeedMore starts lengths l n e q = absurd (is-waiting q)
+row-by rules s (D.Refused number place) starts lengths l n e q = absurd (is-refused q)
 
 pub is-row : (rules : Rules) (s : List ℕ) (starts lengths : ℕ) (l : ListSlot) (n : ℕ) → R.Is l n ≡ rowBy (decodeOf rules s) starts lengths → IsRow s starts lengths l n
 is-row rules s starts lengths l n e = row-by rules s (decodeOf rules s) starts lengths l n refl e

@@ -1,5 +1,5 @@
--- `door`: a function that takes an array of fields by value and lends it to `row_description` as the slice. Whatever the array's length, the walk
--- of its code is the same, so it is said once. The array is copied into a memory slot and lent for a lifetime that is made for the call; `out`
+-- A function that takes an array of fields by value and lends it to `row_description` as the slice. Whatever the array's length, the walk of
+-- its code is the same, so it is said once. The array is copied into a memory slot and lent for a lifetime that is made for the call; `out`
 -- goes to the call for good.
 use Prim.Native.Nat.{ℕ, _^_}
 use mathlib.Core.List.{List, [], _∷_}
@@ -90,8 +90,8 @@ abbrev spell : FieldDescription → List Val
 spell = LL.vals T.the-type T′.the-laws
 
 module _ (k : ℕ) where
-  abbrev pub door : Fn
-  door = record {
+  abbrev pub lender : Fn
+  lender = record {
     lifetimes = 2;
     outlives = [];
     params = 3;
@@ -114,8 +114,8 @@ module _ (k : ℕ) where
         (seq (call #row-description (copy (place 6 []) ∷ copy (place 2 []) ∷ copy (place 8 []) ∷ []) (place 0 [])) return)))));
   }
 
-  abbrev pub doorEnded : Ended
-  doorEnded = record {
+  abbrev pub lenderEnded : Ended
+  lenderEnded = record {
     signature = record {
       lifetimes = 2;
       outlives = [];
@@ -125,14 +125,14 @@ module _ (k : ℕ) where
     kept = (yes, (yes, (yes, tt)));
   }
 
-  abbrev pub doorClauses : {M : Type 1} (𝓤 : URA M) → Clauses 𝓤 doorEnded
-  doorClauses 𝓤 κs a = record {
+  abbrev pub lenderClauses : {M : Type 1} (𝓤 : URA M) → Clauses 𝓤 lenderEnded
+  lenderClauses 𝓤 κs a = record {
     ghost = Unit {0};
     requires = λ _. emp 𝓤;
     ensures = λ _ r e. fact 𝓤 (Encodes K.backend K.rowDescription (G.rowDescription (a .0) (now (a .1 .0))) (now (a .1 .1 .0)) r (now (e .1 .1 .0)));
   }
 
-  abbrev stayed : Stays (doorEnded .signature .params) (doorEnded .kept)
+  abbrev stayed : Stays (lenderEnded .signature .params) (lenderEnded .kept)
   stayed = (stay-dropped (ArrayOf (plain (λ _. R)) (λ _. tt) k) yes, (stay-none-slice (0 ∷ []) tt (plain (λ _. u8)) yes, (gave-slice (1 ∷ []) tt (plain (λ _. u8)), tt)))
 
 abbrev pub Called : {M : Type 1} (𝓤 : URA M) (H : Heap 𝓤) (A : Atoms 𝓤) (mem : Memory → SProp 𝓤) (run : Routine → Fun 𝓤) → Contract 𝓤
@@ -174,7 +174,7 @@ module _ (k : ℕ) (k-small : Holds (ltb k (2 ^ 64))) (k-room : Room R k) {M : T
   Own₂ = MutSlice (named 1) κ₂ u8 .own x₂ (sliceVal (b₂, o₂) (length zs₀) ∷ [])
 
   abbrev Post : Val → SProp 𝓤
-  Post = walkOf 𝓤 H A (doorEnded k) (stayed k) (doorClauses k 𝓤) .post (((κ₁, (κ₂, tt)), (q₁, (q₂, tt)), tt, a, vals), tt)
+  Post = walkOf 𝓤 H A (lenderEnded k) (stayed k) (lenderClauses k 𝓤) .post (((κ₁, (κ₂, tt)), (q₁, (q₂, tt)), tt, a, vals), tt)
 
   -- what is said of the answer, and of what is left
   abbrev Said : Encoded → List ℕ → Type 0
@@ -187,7 +187,7 @@ module _ (k : ℕ) (k-small : Holds (ltb k (2 ^ 64))) (k-room : Room R k) {M : T
       → ent 𝓤 (⋆ 𝓤 H A (‵ (flft κ₁ q₁) ∷ (‵ (flft κ₂ q₂) ⊛ ‵ ftrue) ∷ ‵ (finally u8 γ₂ l) ∷ ‵ Own₁ ∷ [])) (Post u)
   exits r u l is long e =
       qed W (‵ (flft κ₁ q₁) ∷ (‵ (flft κ₂ q₂) ⊛ ‵ ftrue) ∷ ‵ (finally u8 γ₂ l) ∷ ‵ Own₁ ∷ []) ∵
-      suffices ! _ (ends-at 𝓤 H A (doorEnded k) (stayed k) (doorClauses k 𝓤) W (((κ₁, (κ₂, tt)), (q₁, (q₂, tt)), tt, a, vals), tt) u r (tt, (tt, (l, tt))) (tt, (tt, (long, tt)))) $ says ! e $
+      suffices ! _ (ends-at 𝓤 H A (lenderEnded k) (stayed k) (lenderClauses k 𝓤) W (((κ₁, (κ₂, tt)), (q₁, (q₂, tt)), tt, a, vals), tt) u r (tt, (tt, (l, tt))) (tt, (tt, (long, tt)))) $ says ! e $
       join ! $ frame ! $ nothing ! $ move ! (1 ∷ 0 ∷ []) $ fjoin ! $ move ! (1 ∷ 0 ∷ []) $ fjoin ! $ nothing ! $ fjoin ! $ frame ! $
       owned ! Ans (Is Ans) (EL.makes E.the-type E′.the-plain 𝓤 H A) r _ is $ done !
 
@@ -202,10 +202,10 @@ module _ (k : ℕ) (k-small : Holds (ltb k (2 ^ 64))) (k-room : Room R k) {M : T
       nothing ! $ move ! (4 ∷ 0 ∷ []) $ fjoin ! $ move ! (3 ∷ 0 ∷ []) $ fjoin ! $ move ! (2 ∷ 0 ∷ []) $ fjoin ! $ move ! (1 ∷ 0 ∷ []) $ join ! $ frame ! $ done !
 
   module _ (𝓣 : Tables 𝓤 H) (known : Triple 𝓤 (𝓣 .C #row-description) (Called 𝓤 H A mem run)) where
-    walk : Is (Array R k) ys (mach ∷ []) → ent 𝓤 (onEntry 𝓤 H A (doorEnded k .signature) (κ₁, (κ₂, tt)) (q₁, (q₂, tt)) a vals) (WpFn 𝓤 H (𝓣 .C) (𝓣 .Λ) (door k) (mach ∷ sliceVal (b₁, o₁) (length ns) ∷ sliceVal (b₂, o₂) (length zs₀) ∷ []) Post)
+    walk : Is (Array R k) ys (mach ∷ []) → ent 𝓤 (onEntry 𝓤 H A (lenderEnded k .signature) (κ₁, (κ₂, tt)) (q₁, (q₂, tt)) a vals) (WpFn 𝓤 H (𝓣 .C) (𝓣 .Λ) (lender k) (mach ∷ sliceVal (b₁, o₁) (length ns) ∷ sliceVal (b₂, o₂) (length zs₀) ∷ []) Post)
     walk is =
         qed W ((‵ (flft κ₁ q₁) ⊛ (‵ (flft κ₂ q₂) ⊛ ‵ ftrue)) ∷ ‵ (owns (Array R k ∷ ShrSlice (named 0) κ₁ u8 ∷ MutSlice (named 1) κ₂ u8 ∷ []) a vals) ∷ []) ∵
-        enter ! (𝓣 .C) (𝓣 .Λ) (door k) (mach ∷ sliceVal (b₁, o₁) (length ns) ∷ sliceVal (b₂, o₂) (length zs₀) ∷ []) _ $
+        enter ! (𝓣 .C) (𝓣 .Λ) (lender k) (mach ∷ sliceVal (b₁, o₁) (length ns) ∷ sliceVal (b₂, o₂) (length zs₀) ∷ []) _ $
         alloc1 ! (λ l₀. alloc1 ! (λ l₁. alloc1 ! (λ l₂. alloc1 ! (λ l₃. alloc1 ! (λ l₄. alloc1 ! (λ l₅. alloc1 ! (λ l₆. alloc1 ! (λ l₇. alloc1 ! (λ l₈. alloc0 ! $ params1 ! $
         pass1 ! (init ! 14 refl (array-lawful 𝓤 H A W R (LL.lawful T.the-type T′.the-laws 𝓤 H A W) k .typed ys _ is .0)) $ pass1 ! (init ! 12 refl (tt, (tt, (record { fits = room₁ .0 }, tt)))) $ pass1 ! (init ! 10 refl (tt, (tt, (record { fits = room₂ .0 }, tt)))) $ pass0 ! $
         -- [_8 0; _7 2; _6 4; _5 6; _4 8; _3 10; _2 12; _1 14; _0 16; the tokens 18; what the parameters own 19]
@@ -243,13 +243,13 @@ module _ (k : ℕ) (k-small : Holds (ltb k (2 ^ 64))) (k-room : Room R k) {M : T
         split ! $ keep ! (0 ∷ 1 ∷ 2 ∷ 4 ∷ []) $ by ! (exits r u (ws .1 .1 .0) is-r same e))))))))))))))))))
 
 module _ (k : ℕ) (k-small : Holds (ltb k (2 ^ 64))) (k-room : Room R k) {M : Type 1} (𝓤 : URA M) (H : Heap 𝓤) (A : Atoms 𝓤) (W : Given 𝓤 H A) (mem : Memory → SProp 𝓤) (run : Routine → Fun 𝓤) (𝓣 : Tables 𝓤 H) (known : Triple 𝓤 (𝓣 .C #row-description) (Called 𝓤 H A mem run)) where
-  door-walks : Walks 𝓤 H A (doorEnded k) (stayed k) (WpFn 𝓤 H (𝓣 .C) (𝓣 .Λ) (door k)) (doorClauses k 𝓤)
-  door-walks = walked 𝓤 H A (doorEnded k) (stayed k) (doorClauses k 𝓤) (WpFn 𝓤 H (𝓣 .C) (𝓣 .Λ) (door k)) (λ κs. (array-vals spell, (slice-vals, (slice-vals, tt))))
+  lender-walks : Walks 𝓤 H A (lenderEnded k) (stayed k) (WpFn 𝓤 H (𝓣 .C) (𝓣 .Λ) (lender k)) (lenderClauses k 𝓤)
+  lender-walks = walked 𝓤 H A (lenderEnded k) (stayed k) (lenderClauses k 𝓤) (WpFn 𝓤 H (𝓣 .C) (𝓣 .Λ) (lender k)) (λ κs. (array-vals spell, (slice-vals, (slice-vals, tt))))
       (λ κs. (array-tells R spell (LL.tells T.the-type T′.the-laws) k, (shr-slice-tells (named 0) (κs .0) u8, (mut-slice-tells (named 1) (κs .1 .0) u8, tt))))
       (λ κs qs bounds a gh are. via 𝓤 _ (fst∗ 𝓤 _ (emp 𝓤)) (
       walk k k-small k-room 𝓤 H A W mem run (κs .0) (κs .1 .0) (qs .0) (qs .1 .0) (a .0) (a .1 .0 .ptr .0) (a .1 .0 .ptr .1) (a .1 .0 .name) (a .1 .0 .now)
       (a .1 .1 .0 .ptr .0) (a .1 .1 .0 .ptr .1) (a .1 .1 .0 .name) (a .1 .1 .0 .now) (are .0 .1 .0 .1) (are .1 .0 .0 .1) (are .1 .1 .0 .0 .1) 𝓣 known (are .0)))
 
-  pub door-meets : Meets 𝓤 H A (doorEnded k .signature) (WpFn 𝓤 H (𝓣 .C) (𝓣 .Λ) (door k)) (closing 𝓤 H A (doorEnded k) (doorClauses k 𝓤))
-  door-meets = walk-meets 𝓤 H A (doorEnded k) (stayed k) W (goes-dropped 𝓤 H A W 2 (ArrayOf (plain (λ _. R)) (λ _. tt) k) yes (λ κs x v. refl), (goes-none-slice 𝓤 H A W 2 (0 ∷ []) tt (plain (λ _. u8)) yes, (goes-gave-slice 𝓤 H A W 2 1 tt (plain (λ _. u8)), tt)))
-      (doorClauses k 𝓤) (WpFn 𝓤 H (𝓣 .C) (𝓣 .Λ) (door k)) (WpFn-mono 𝓤 H (W .laws) 𝓣 (door k)) door-walks
+  pub lender-meets : Meets 𝓤 H A (lenderEnded k .signature) (WpFn 𝓤 H (𝓣 .C) (𝓣 .Λ) (lender k)) (closing 𝓤 H A (lenderEnded k) (lenderClauses k 𝓤))
+  lender-meets = walk-meets 𝓤 H A (lenderEnded k) (stayed k) W (goes-dropped 𝓤 H A W 2 (ArrayOf (plain (λ _. R)) (λ _. tt) k) yes (λ κs x v. refl), (goes-none-slice 𝓤 H A W 2 (0 ∷ []) tt (plain (λ _. u8)) yes, (goes-gave-slice 𝓤 H A W 2 1 tt (plain (λ _. u8)), tt)))
+      (lenderClauses k 𝓤) (WpFn 𝓤 H (𝓣 .C) (𝓣 .Λ) (lender k)) (WpFn-mono 𝓤 H (W .laws) 𝓣 (lender k)) lender-walks
