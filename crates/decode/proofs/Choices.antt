@@ -15,7 +15,7 @@ use Rattle.protocol.specs.Decode.{typedBy, untypedBy, bareBy, tagPlace, tagAt, 
 use Rattle.protocol.specs.Kinds.{Envelope, typed, untyped, bare, Kind, Mode, modeOf, kindIn}
 use Rattle.protocol.specs.Refusals.{typeUnknown}
 use Rattle.protocol.proofs.Find.{Apart, keysOnto, tagOf, kind-apart}
-use Rattle.messages.specs.Steps.{endIn, decodeMade}
+use Rattle.envelope.specs.Steps.{endIn, decodeMade}
 
 -- where a tag ends: fewer bytes are not looked at
 abbrev tagEnd : Envelope → ℕ

@@ -14,8 +14,8 @@ use Rattle.protocol.specs.Kinds.{untyped, i32, cancelRequest}
 use Rattle.protocol.specs.Records as R
 use Rattle.codec.specs.Answers.{wordRead}
 use Rattle.codec.proofs.Signs.{back}
-use Rattle.messages.proofs.Points as P
-use Rattle.messages.proofs.Points.{on, off, done, begin, none, ends, signed-got, signed-bad}
+use Rattle.envelope.proofs.Points as P
+use Rattle.envelope.proofs.Points.{on, off, done, begin, none, ends, signed-got, signed-bad}
 use Rattle.messages.proofs.cancel.cancel_request.Statement.{statement}
 use Rattle.messages.proofs.cancel.cancel_request.Tie as tie
 

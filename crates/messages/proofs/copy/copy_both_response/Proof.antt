@@ -2,7 +2,7 @@
 use mathlib.Core.Path.{_∙_}
 use borrow.Author.Needs.{needs}
 use Rattle.protocol.specs.Kinds.{typed, copyInResponse, copyOutResponse, copyBothResponse}
-use Rattle.messages.proofs.Points.{made-as}
+use Rattle.envelope.proofs.Points.{made-as}
 use Rattle.messages.proofs.copy.copy_both_response.Statement.{statement}
 use Rattle.messages.proofs.copy.copy_both_response.Tie as tie
 

@@ -9,8 +9,8 @@ use Rattle.protocol.specs.Decode.{decodeAs}
 use Rattle.protocol.specs.Each.{Each}
 use Rattle.protocol.specs.Fields.{Field, Slot}
 use Rattle.protocol.specs.Kinds.{typed, copyData}
-use Rattle.messages.proofs.Points as P
-use Rattle.messages.proofs.Points.{on, done, begin, none, ends}
+use Rattle.envelope.proofs.Points as P
+use Rattle.envelope.proofs.Points.{on, done, begin, none, ends}
 use Rattle.messages.proofs.copy.copy_data.Statement.{statement}
 use Rattle.messages.proofs.copy.copy_data.Tie as tie
 

@@ -12,9 +12,10 @@ use Rattle.protocol.specs.Fields.{Field, Slot}
 use Rattle.protocol.specs.Kinds.{typed, formats}
 use Rattle.codec.specs.Answers.{byteRead, listedRead}
 use Rattle.codec.proofs.Signs.{back}
-use Rattle.messages.specs.Steps.{copyFields, copyMessage, decodeMade, refusalOf}
-use Rattle.messages.proofs.Points as P
-use Rattle.messages.proofs.Points.{on, off, done, begin-made, none-made, ends, signed-got, signed-bad}
+use Rattle.envelope.specs.Steps.{decodeMade, refusalOf}
+use Rattle.messages.specs.Shared.{copyFields, copyMessage}
+use Rattle.envelope.proofs.Points as P
+use Rattle.envelope.proofs.Points.{on, off, done, begin-made, none-made, ends, signed-got, signed-bad}
 use Rattle.messages.proofs.copy.copy_response.Statement.{statement}
 use Rattle.messages.proofs.copy.copy_response.Tie as tie
 

@@ -11,9 +11,9 @@ use Rattle.protocol.specs.Fields.{Field, Slot}
 use Rattle.protocol.specs.Kinds.{typed, rowDescription}
 use Rattle.protocol.specs.Records as R
 use Rattle.codec.specs.Answers.{listedRead}
-use Rattle.messages.specs.Steps.{refusalOf}
-use Rattle.messages.proofs.Points as P
-use Rattle.messages.proofs.Points.{on, off, done, begin, none, ends}
+use Rattle.envelope.specs.Steps.{refusalOf}
+use Rattle.envelope.proofs.Points as P
+use Rattle.envelope.proofs.Points.{on, off, done, begin, none, ends}
 use Rattle.messages.proofs.data.row_description.Statement.{statement}
 use Rattle.messages.proofs.data.row_description.Tie as tie
 

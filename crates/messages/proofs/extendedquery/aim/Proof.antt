@@ -10,9 +10,10 @@ use Rattle.protocol.specs.Each.{Each}
 use Rattle.protocol.specs.Fields.{Field, Slot}
 use Rattle.protocol.specs.Kinds.{typed, string, targets}
 use Rattle.codec.specs.Answers.{byteRead, textRead}
-use Rattle.messages.specs.Steps.{aimFields, aimMessage, decodeMade}
-use Rattle.messages.proofs.Points as P
-use Rattle.messages.proofs.Points.{on, off, done, begin-made, none-made, ends, one-got, one-not, one-bad}
+use Rattle.envelope.specs.Steps.{decodeMade}
+use Rattle.messages.specs.Shared.{aimFields, aimMessage}
+use Rattle.envelope.proofs.Points as P
+use Rattle.envelope.proofs.Points.{on, off, done, begin-made, none-made, ends, one-got, one-not, one-bad}
 use Rattle.messages.proofs.extendedquery.aim.Statement.{statement}
 use Rattle.messages.proofs.extendedquery.aim.Tie as tie
 

@@ -2,7 +2,7 @@
 use mathlib.Core.Path.{_∙_}
 use borrow.Author.Needs.{needs}
 use Rattle.protocol.specs.Kinds.{typed, close, describe}
-use Rattle.messages.proofs.Points.{made-as}
+use Rattle.envelope.proofs.Points.{made-as}
 use Rattle.messages.proofs.extendedquery.describe.Statement.{statement}
 use Rattle.messages.proofs.extendedquery.describe.Tie as tie
 

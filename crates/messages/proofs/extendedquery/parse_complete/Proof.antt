@@ -2,7 +2,7 @@
 use mathlib.Core.Path.{_∙_}
 use borrow.Author.Needs.{needs}
 use Rattle.protocol.specs.Kinds.{typed, parseComplete}
-use Rattle.messages.proofs.Points.{made-as}
+use Rattle.envelope.proofs.Points.{made-as}
 use Rattle.messages.proofs.extendedquery.parse_complete.Statement.{statement}
 use Rattle.messages.proofs.extendedquery.parse_complete.Tie as tie
 

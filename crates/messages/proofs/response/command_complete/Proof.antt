@@ -11,8 +11,8 @@ use Rattle.protocol.specs.Fields.{Field, Slot}
 use Rattle.protocol.specs.Kinds.{typed, commandComplete}
 use Rattle.protocol.specs.Records as R
 use Rattle.codec.specs.Answers.{textRead}
-use Rattle.messages.proofs.Points as P
-use Rattle.messages.proofs.Points.{on, off, done, begin, none, ends}
+use Rattle.envelope.proofs.Points as P
+use Rattle.envelope.proofs.Points.{on, off, done, begin, none, ends}
 use Rattle.messages.proofs.response.command_complete.Statement.{statement}
 use Rattle.messages.proofs.response.command_complete.Tie as tie
 

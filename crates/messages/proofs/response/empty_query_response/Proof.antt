@@ -2,7 +2,7 @@
 use mathlib.Core.Path.{_∙_}
 use borrow.Author.Needs.{needs}
 use Rattle.protocol.specs.Kinds.{typed, emptyQueryResponse}
-use Rattle.messages.proofs.Points.{made-as}
+use Rattle.envelope.proofs.Points.{made-as}
 use Rattle.messages.proofs.response.empty_query_response.Statement.{statement}
 use Rattle.messages.proofs.response.empty_query_response.Tie as tie
 

@@ -12,8 +12,8 @@ use Rattle.protocol.specs.Fields.{Field, Slot}
 use Rattle.protocol.specs.Kinds.{typed, statuses, readyForQuery}
 use Rattle.protocol.specs.Records as R
 use Rattle.codec.specs.Answers.{byteRead}
-use Rattle.messages.proofs.Points as P
-use Rattle.messages.proofs.Points.{on, off, done, begin, none, ends, one-got, one-not, one-bad}
+use Rattle.envelope.proofs.Points as P
+use Rattle.envelope.proofs.Points.{on, off, done, begin, none, ends, one-got, one-not, one-bad}
 use Rattle.messages.proofs.response.ready_for_query.Statement.{statement}
 use Rattle.messages.proofs.response.ready_for_query.Tie as tie
 

@@ -1,4 +1,4 @@
--- `messages::envelope::untyped` meets its contract: the length word stands first, before a code.
+-- `envelope::untyped` meets its contract: the length word stands first, before a code.
 use Prim.Native.Nat.{ℕ}
 use mathlib.Core.Path.{_≡_, refl, ap, sym, _∙_}
 use native.Mathlib.Omega.{arith}
@@ -8,9 +8,9 @@ use lib.ListN.{length}
 use Rattle.protocol.specs.Bytes.{signedOf}
 use Rattle.protocol.proofs.Numbers.{whole, not-whole}
 use Rattle.codec.specs.Answers.{wordRead}
-use Rattle.messages.specs.Steps.{endOf, endIn}
-use Rattle.messages.proofs.envelope.untyped.Statement.{statement}
-use Rattle.messages.proofs.envelope.untyped.Tie as tie
+use Rattle.envelope.specs.Steps.{endOf, endIn}
+use Rattle.envelope.proofs.untyped.Statement.{statement}
+use Rattle.envelope.proofs.untyped.Tie as tie
 
 returns : tie.Need-returns
 unfolding endIn

@@ -1,16 +1,16 @@
--- `messages::envelope::unframed` meets its contract: case by case of the header.
+-- `envelope::unframed` meets its contract: case by case of the header.
 use mathlib.Core.List.{[], _∷_}
 use mathlib.Core.Path.{_≡_, refl}
 use borrow.Author.Needs.{needs}
 use denote.Enum.Declared.{tagOf}
 use types.Run.{OneOf, miss}
 use Rattle.protocol.specs.declared.Decoded.the-variants as D
-use Rattle.messages.specs.Steps.{unframedOf}
-use Rattle.messages.specs.declared.envelope.Header.the-variants as H
-use Rattle.messages.specs.declared.envelope.Header.{Header}
-use Rattle.messages.proofs.envelope.Header as HT
-use Rattle.messages.proofs.envelope.unframed.Statement.{statement}
-use Rattle.messages.proofs.envelope.unframed.Tie as tie
+use Rattle.envelope.specs.Steps.{unframedOf}
+use Rattle.envelope.specs.declared.Header.the-variants as H
+use Rattle.envelope.specs.declared.Header.{Header}
+use Rattle.envelope.proofs.Header as HT
+use Rattle.envelope.proofs.unframed.Statement.{statement}
+use Rattle.envelope.proofs.unframed.Tie as tie
 
 not-refused : (h : Header) → OneOf (0 ∷ 1 ∷ []) (tagOf HT.the-type h) → D.NeedMore ≡ unframedOf h
 not-refused (H.Frame end) o = refl

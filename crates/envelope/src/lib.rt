@@ -1,12 +1,20 @@
-// A frame's envelope, in the order of docs/FORMAT.md 3: its length, checked by its kind's bounds, before its body.
+// What stands around a body, in the order of docs/FORMAT.md 3: the length, checked by the kind's bounds, before it, and nothing behind it.
+// Inner: for crates of this library alone (docs/INNER.md).
+ghost use mathlib.Core.List.{[]};
 ghost use mathlib.Core.Path.{_≡_};
+ghost use lib.ListN.{length};
 ghost use Rattle.protocol.specs.Bytes.{signedOf};
+ghost use Rattle.protocol.specs.Decode.{closed, decodedBy};
 ghost use Rattle.protocol.specs.Kinds as K;
-ghost use Rattle.messages.specs.Steps.{endIn, endOf, unframedOf};
+ghost use Rattle.envelope.specs.Steps.{decodeMade, endIn, endOf, refusalOf, unframedOf};
 use codec::Cursor;
+use codec::Listed;
 use codec::Word;
 use protocol::Decoded;
+use protocol::Message;
+use protocol::Rules;
 use protocol::kinds::Bounds;
+use protocol::refusal::BYTES_LEFT;
 use protocol::refusal::LENGTH_ABOVE_LIMIT;
 use protocol::refusal::LENGTH_TOO_SMALL;
 
@@ -79,4 +87,38 @@ pub fn unframed(header: Header) -> Decoded
         Header::Refused(number, place) => Decoded::Refused(number, place),
         _ => Decoded::NeedMore,
     }
+}
+
+// After the last field: the record and the bytes consumed, or the first byte left over.
+pub fn finished(frame: &[u8], c: Cursor, message: Message) -> Decoded
+    ensures { λ r. ⌜ r ≡ decodedBy (closed (now (frame .entry)) (c .at) message) (length (now (frame .entry))) ⌝ }
+{
+    let at = c.at;
+    if at < frame.len() {
+        Decoded::Refused(BYTES_LEFT, at)
+    } else {
+        Decoded::Record(message, frame.len())
+    }
+}
+
+// The refusal of a list. (Nobody asks it of a list that was read: that has no number, and its place is the next.)
+pub fn refused(listed: Listed) -> Decoded
+    ensures { λ r. ⌜ r ≡ refusalOf listed ⌝ }
+{
+    match listed {
+        Listed::Refused(number, place) => Decoded::Refused(number, place),
+        Listed::Is(_, c) => Decoded::Refused(0, c.at),
+    }
+}
+
+// A kind with no field.
+pub fn fieldless(rules: Rules, buf: &[u8], bounds: Bounds, message: Message) -> Decoded
+    ensures { λ r. ⌜ r ≡ decodeMade rules K.typed bounds [] (λ _. message) (now (buf .entry)) ⌝ }
+{
+    let header = typed(&*buf, bounds);
+    let Header::Frame(end) = header else {
+        return unframed(header);
+    };
+    let frame = &buf[..end];
+    finished(frame, Cursor { at: TYPED_BODY }, message)
 }

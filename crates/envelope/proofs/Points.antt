@@ -24,10 +24,10 @@ use Rattle.protocol.specs.Kinds.{Envelope, typed, untyped, bare, Kind}
 use Rattle.protocol.specs.Reading.{Read, got, bad, andThen, read, readEach}
 use Rattle.protocol.specs.Refusals.{lengthTooSmall, lengthAboveLimit, notAllowed}
 use Rattle.protocol.specs.WellFormed.{bodyStart}
-use Rattle.messages.specs.Steps.{endOf, endIn, unframedOf, leftOf, framedBy, decodeMade}
-use Rattle.messages.specs.declared.envelope.Header.the-variants as H
-use Rattle.messages.specs.declared.envelope.Header.{Header}
-use Rattle.messages.proofs.envelope.Header as HT
+use Rattle.envelope.specs.Steps.{endOf, endIn, unframedOf, leftOf, framedBy, decodeMade}
+use Rattle.envelope.specs.declared.Header.the-variants as H
+use Rattle.envelope.specs.declared.Header.{Header}
+use Rattle.envelope.proofs.Header as HT
 
 -- ---- one field after the other
 

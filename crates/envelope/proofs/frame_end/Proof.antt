@@ -1,4 +1,4 @@
--- `messages::envelope::frame_end` meets its contract: the length's checks, one after the other.
+-- `envelope::frame_end` meets its contract: the length's checks, one after the other.
 use Prim.Native.Nat.{ℕ, _<_, _≤_}
 use mathlib.Core.Path.{_≡_, refl, ap, sym, _∙_}
 use native.Mathlib.Omega.{arith}
@@ -6,9 +6,9 @@ use borrow.Author.Needs.{needs}
 use borrow.Author.Tests.{lt-ltb, le-ltb}
 use lib.IntN.{ℤ, pos}
 use Rattle.protocol.proofs.Numbers.{lower, upper}
-use Rattle.messages.specs.Steps.{endOf}
-use Rattle.messages.proofs.envelope.frame_end.Statement.{statement}
-use Rattle.messages.proofs.envelope.frame_end.Tie as tie
+use Rattle.envelope.specs.Steps.{endOf}
+use Rattle.envelope.proofs.frame_end.Statement.{statement}
+use Rattle.envelope.proofs.frame_end.Tie as tie
 
 returns : tie.Need-returns
 unfolding endOf

@@ -1,9 +1,9 @@
--- `messages::body::finished` meets its contract.
+-- `envelope::finished` meets its contract.
 use mathlib.Core.Path.{refl}
 use borrow.Author.Tests.{lt-ltb, le-ltb}
 use Rattle.protocol.specs.Decode.{closed, decodedBy}
-use Rattle.messages.proofs.body.finished.Statement.{statement}
-use Rattle.messages.proofs.body.finished.Tie as tie
+use Rattle.envelope.proofs.finished.Statement.{statement}
+use Rattle.envelope.proofs.finished.Tie as tie
 
 returns : tie.Need-returns
 unfolding closed decodedBy

@@ -1,11 +1,11 @@
--- `messages::body::fieldless` meets its contract: the envelope, and then nothing.
+-- `envelope::fieldless` meets its contract: the envelope, and then nothing.
 use mathlib.Core.List.{[]}
 use mathlib.Core.Path.{sym, _∙_}
 use borrow.Author.Needs.{needs}
 use Rattle.protocol.specs.Kinds.{typed}
-use Rattle.messages.proofs.Points.{done, begin-made, none-made, ends}
-use Rattle.messages.proofs.body.fieldless.Statement.{statement}
-use Rattle.messages.proofs.body.fieldless.Tie as tie
+use Rattle.envelope.proofs.Points.{done, begin-made, none-made, ends}
+use Rattle.envelope.proofs.fieldless.Statement.{statement}
+use Rattle.envelope.proofs.fieldless.Tie as tie
 
 returns : tie.Need-returns
 returns c =

@@ -1,4 +1,4 @@
--- What the steps of a kind's decoder answer.
+-- What the steps of a kind's decoder answer around its body.
 use Prim.Native.Nat.{ℕ, _+_}
 use mathlib.Core.Bool.{cond}
 use mathlib.Core.List.{List, [], _∷_}
@@ -14,18 +14,14 @@ use Rattle.protocol.specs.Bytes.{numberAt, signedOf}
 use Rattle.protocol.specs.Decode.{closed, decodedBy}
 use Rattle.protocol.specs.Each.{Each}
 use Rattle.protocol.specs.Fields.{Field, Slot}
-use Rattle.protocol.specs.Kinds.{Envelope, typed, untyped, bare, Kind, target, string, i8, formats, close, describe, copyInResponse, copyOutResponse, copyBothResponse}
+use Rattle.protocol.specs.Kinds.{Envelope, typed, untyped, bare}
 use Rattle.protocol.specs.Reading.{Read, andThen, read, readEach}
 use Rattle.protocol.specs.Refusals.{lengthTooSmall, lengthAboveLimit}
 use Rattle.protocol.specs.WellFormed.{bodyStart}
 use Rattle.codec.specs.declared.Listed.the-variants as L
 use Rattle.codec.specs.declared.Listed.{Listed}
-use Rattle.messages.specs.declared.copy.Direction.the-variants as D′
-use Rattle.messages.specs.declared.copy.Direction.{Direction}
-use Rattle.messages.specs.declared.envelope.Header.the-variants as H
-use Rattle.messages.specs.declared.envelope.Header.{Header}
-use Rattle.messages.specs.declared.extendedquery.Act.the-variants as A
-use Rattle.messages.specs.declared.extendedquery.Act.{Act}
+use Rattle.envelope.specs.declared.Header.the-variants as H
+use Rattle.envelope.specs.declared.Header.{Header}
 
 -- ---- the envelope
 
@@ -70,22 +66,3 @@ framedBy (H.Refused number place) s body = D.Refused number place
 -- a buffer of a kind with these bounds and this body, and what is made of its slots: for a body that several kinds have
 abbrev pub decodeMade : Rules → Envelope → Bounds → (xs : List Field) → (Each Slot xs → Message) → List ℕ → Decoded
 decodeMade rules e b xs make s = framedBy (endIn e b s) s (λ f. leftOf rules xs make f (bodyStart e))
-
--- a target byte and a name: Close and Describe
-abbrev pub aimFields : List Field
-aimFields = target ∷ string ∷ []
-
-abbrev pub aimMessage : Act → Each Slot aimFields → Message
-unfolding close describe
-aimMessage A.Close = close .message
-aimMessage A.Describe = describe .message
-
--- a format and the columns' formats: the three copy responses
-abbrev pub copyFields : List Field
-copyFields = i8 ∷ formats ∷ []
-
-abbrev pub copyMessage : Direction → Each Slot copyFields → Message
-unfolding copyInResponse copyOutResponse copyBothResponse
-copyMessage D′.In = copyInResponse .message
-copyMessage D′.Out = copyOutResponse .message
-copyMessage D′.Both = copyBothResponse .message

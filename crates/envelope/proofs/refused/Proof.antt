@@ -1,8 +1,8 @@
--- `messages::body::refused` meets its contract: case by case of the list's answer.
+-- `envelope::refused` meets its contract: case by case of the list's answer.
 use mathlib.Core.Path.{refl}
 use borrow.Author.Needs.{needs}
-use Rattle.messages.proofs.body.refused.Statement.{statement}
-use Rattle.messages.proofs.body.refused.Tie as tie
+use Rattle.envelope.proofs.refused.Statement.{statement}
+use Rattle.envelope.proofs.refused.Tie as tie
 
 returns : tie.Need-returns
 returns c = rw (c .before .listed .given .1) refl
