@@ -25,7 +25,7 @@ use Rattle.protocol.proofs.Message as Msg
 abbrev pub Viewed : Kind → Type 0
 Viewed k = (s : Each Slot (k .body)) → view (k .message s) ≡ record { kind = k; slots = s }
 
--- of each row, which a lookup finds (told-row)
+-- of each row: `told-row` carries it to the kind that a tag tells
 pub viewed : All (λ (m : Mode). All Viewed (m .kinds)) modes
 unfolding the-table view
 viewed = search tt depth 60 fits 5000
@@ -39,43 +39,43 @@ pub record Made (m : Message) : Type 0 where
   pub row : kindIn mode (view m .kind .tag) ≡ some (view m .kind)
   pub back : view m .kind .message (view m .slots) ≡ m
 
-of : {m : Message} (mode : Mode) → modeOf (rulesOf (mode .mode)) ≡ some mode → kindIn mode (view m .kind .tag) ≡ some (view m .kind) → view m .kind .message (view m .slots) ≡ m → Made m
-of mode known row back = record { mode = mode; known = known; row = row; back = back }
+in-mode : {m : Message} (mode : Mode) → modeOf (rulesOf (mode .mode)) ≡ some mode → kindIn mode (view m .kind .tag) ≡ some (view m .kind) → view m .kind .message (view m .slots) ≡ m → Made m
+in-mode mode known row back = record { mode = mode; known = known; row = row; back = back }
 
 pub made : (m : Message) → Made m
 unfolding the-table find modeOf kindIn view
-made (M.Parse m) = of frontend refl refl refl
-made (M.Bind m) = of frontend refl refl refl
-made (M.Close m) = of frontend refl refl refl
-made (M.Describe m) = of frontend refl refl refl
-made (M.Execute m) = of frontend refl refl refl
-made M.Flush = of frontend refl refl refl
-made M.Sync = of frontend refl refl refl
-made M.CopyDone = of frontend refl refl refl
-made (M.CopyData m) = of frontend refl refl refl
-made (M.CopyFail m) = of frontend refl refl refl
-made M.ParseComplete = of backend refl refl refl
-made M.BindComplete = of backend refl refl refl
-made M.CloseComplete = of backend refl refl refl
-made M.PortalSuspended = of backend refl refl refl
-made M.NoData = of backend refl refl refl
-made M.EmptyQueryResponse = of backend refl refl refl
-made (M.RowDescription m) = of backend refl refl refl
-made (M.ParameterDescription m) = of backend refl refl refl
-made (M.DataRow m) = of backend refl refl refl
-made (M.CommandComplete m) = of backend refl refl refl
-made (M.ReadyForQuery m) = of backend refl refl refl
-made (M.ErrorResponse m) = of backend refl refl refl
-made (M.NoticeResponse m) = of backend refl refl refl
-made (M.CopyInResponse m) = of backend refl refl refl
-made (M.CopyOutResponse m) = of backend refl refl refl
-made (M.CopyBothResponse m) = of backend refl refl refl
-made (M.NotificationResponse m) = of backend refl refl refl
-made (M.CancelRequest m) = of cancel refl refl refl
-made (M.SslResponse Ssl.Accept) = of tlsAnswer refl refl refl
-made (M.SslResponse Ssl.Refuse) = of tlsAnswer refl refl refl
-made (M.GssEncResponse Gss.Accept) = of gssAnswer refl refl refl
-made (M.GssEncResponse Gss.Refuse) = of gssAnswer refl refl refl
+made (M.Parse m) = in-mode frontend refl refl refl
+made (M.Bind m) = in-mode frontend refl refl refl
+made (M.Close m) = in-mode frontend refl refl refl
+made (M.Describe m) = in-mode frontend refl refl refl
+made (M.Execute m) = in-mode frontend refl refl refl
+made M.Flush = in-mode frontend refl refl refl
+made M.Sync = in-mode frontend refl refl refl
+made M.CopyDone = in-mode frontend refl refl refl
+made (M.CopyData m) = in-mode frontend refl refl refl
+made (M.CopyFail m) = in-mode frontend refl refl refl
+made M.ParseComplete = in-mode backend refl refl refl
+made M.BindComplete = in-mode backend refl refl refl
+made M.CloseComplete = in-mode backend refl refl refl
+made M.PortalSuspended = in-mode backend refl refl refl
+made M.NoData = in-mode backend refl refl refl
+made M.EmptyQueryResponse = in-mode backend refl refl refl
+made (M.RowDescription m) = in-mode backend refl refl refl
+made (M.ParameterDescription m) = in-mode backend refl refl refl
+made (M.DataRow m) = in-mode backend refl refl refl
+made (M.CommandComplete m) = in-mode backend refl refl refl
+made (M.ReadyForQuery m) = in-mode backend refl refl refl
+made (M.ErrorResponse m) = in-mode backend refl refl refl
+made (M.NoticeResponse m) = in-mode backend refl refl refl
+made (M.CopyInResponse m) = in-mode backend refl refl refl
+made (M.CopyOutResponse m) = in-mode backend refl refl refl
+made (M.CopyBothResponse m) = in-mode backend refl refl refl
+made (M.NotificationResponse m) = in-mode backend refl refl refl
+made (M.CancelRequest m) = in-mode cancel refl refl refl
+made (M.SslResponse Ssl.Accept) = in-mode tlsAnswer refl refl refl
+made (M.SslResponse Ssl.Refuse) = in-mode tlsAnswer refl refl refl
+made (M.GssEncResponse Gss.Accept) = in-mode gssAnswer refl refl refl
+made (M.GssEncResponse Gss.Refuse) = in-mode gssAnswer refl refl refl
 
 -- what holds of each row holds of a message's
 pub each-row : (P : Kind → Type 0) → All (λ (m : Mode). All P (m .kinds)) modes → (m : Message) → P (view m .kind)
@@ -95,7 +95,7 @@ placesFrom test (suc turns) n = placeOf test (numbered (suc n)) n (placesFrom te
 abbrev pub places : (Kind → Bool) → List ℕ
 places test = placesFrom test (length rows) 0
 
--- what holds unless x is none of some numbers
+-- what holds if x is one of some numbers, which it is
 if-key : (ts : List ℕ) (x : ℕ) (t : Bool) → OneOf ts x → T (not (hasKey ts x) || t) → T t
 if-key ts x t is h = by (hasKey ts x) (miss ts x) h
   where

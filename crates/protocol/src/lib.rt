@@ -58,7 +58,8 @@ pub fn rules_of(mode: u8) -> Rules
     Rules { mode }
 }
 
-// A message, under the Rust's names. The kinds with no field hold nothing.
+// A message, under the Rust's names. The kinds with no field hold nothing. The variants stand in the order of the kinds' numbers (specs Kinds), by which
+// proofs know their places.
 pub enum Message {
     Parse(Parse),
     Bind(Bind),
