@@ -5,7 +5,7 @@ use mathlib.Core.Path.{_≡_, refl}
 use Rattle.protocol.specs.declared.Span.{Span}
 use Rattle.protocol.specs.Kinds as K
 use Rattle.protocol.specs.Kinds.{Kind, Mode, modes, nullable, valueElement, the-table}
-use Rattle.laws.proofs.Table.{All, in-all}
+use Rattle.protocol.proofs.Find.{All, in-all}
 use Rattle.by_kind.specs.Document as Document
 use Rattle.by_kind.specs.Document.{lineOf, RecordNamed, ItemNamed, ItemsNamed, bytesOf, tlsBytes, gssBytes, TableIsDocument}
 use Rattle.by_kind.specs.FieldNames.{orNull, _∶_, elementFields}

@@ -8,12 +8,12 @@ use mathlib.Core.Path.{_≡_, refl, ap, sym, _∙_}
 use borrow.Author.Tests.{not-true}
 use Rattle.protocol.specs.Fields.{Atom, unsigned, signed, oneOf, text, value, rest, Item, Field, one, counted, ended}
 use Rattle.protocol.specs.Kinds.{Kind, Mode, modes, bind, dataRow, nullable, the-table}
+use Rattle.protocol.proofs.Find.{All, in-all}
 use Rattle.laws.specs.ElementStatements.{HasValues}
 use Rattle.laws.specs.Items.{listItem}
 use Rattle.laws.specs.Statements.{theElementCall}
 use Rattle.laws.proofs.ElementCalls.{emptyStarts}
 use Rattle.laws.proofs.Items.{both}
-use Rattle.laws.proofs.Table.{All, in-all}
 use Rattle.by_kind.specs.Values.{HasSecondForm, SecondForm}
 
 -- ---- lists of anything else

@@ -3,7 +3,6 @@ use Prim.Native.Nat.{ℕ, zero, suc, _-_, _<_, _^_}
 use mathlib.Core.Path.{_≡_, refl, ap, _∙_}
 use native.Mathlib.Omega.{arith}
 use lib.IntN.{ℤ, pos, negsuc, _-ℤ_}
-use lib.Signed.{mag}
 use mir.Syntax.{Width}
 use mir.Val.{SFits, hbits, toZ, ofZ}
 use mir.ValLaws.{toZ-ofZ, toZ-pos}
@@ -22,7 +21,3 @@ module _ (w : Width) (k : ℕ) (h : k < 2 ^ hbits w) where
 
   pub minus-back : toZ w (ofZ w (negsuc 0 -ℤ toZ w k)) ≡ negsuc k
   minus-back = rw minus (toZ-ofZ w (negsuc k) (record { sfits = h }))
-
--- a signed number that is handed on is read back from its bits
-pub back : (w : Width) (z : ℤ) → mag z < 2 ^ hbits w → toZ w (ofZ w z) ≡ z
-back w z h = toZ-ofZ w z (record { sfits = h })

@@ -21,9 +21,10 @@ use Rattle.protocol.specs.Decode.{more, refuse, framed, lengthBy, typedBy, unty
 use Rattle.protocol.specs.Each.{Each}
 use Rattle.protocol.specs.Fields.{Field, Slot}
 use Rattle.protocol.specs.Kinds.{Envelope, typed, untyped, bare, Kind}
-use Rattle.protocol.specs.Reading.{Read, got, bad, andThen, read, readEach}
+use Rattle.protocol.specs.Reading.{Read, got, bad, andThen, read}
 use Rattle.protocol.specs.Refusals.{lengthTooSmall, lengthAboveLimit, notAllowed}
 use Rattle.protocol.specs.WellFormed.{bodyStart}
+use Rattle.protocol.proofs.OneByOne.{each-on, each-off}
 use Rattle.envelope.specs.Steps.{endOf, endIn, unframedOf, leftOf, framedBy, decodeMade}
 use Rattle.envelope.specs.declared.Header.the-variants as H
 use Rattle.envelope.specs.declared.Header.{Header}
@@ -35,37 +36,21 @@ use Rattle.envelope.proofs.Header as HT
 pub record Left (rules : Rules) (f : List ℕ) (whole : Decoded) (xs : List Field) (make : Each Slot xs → Message) (p : ℕ) : Type 0 where
   pub is : leftOf rules xs make f p ≡ whole
 
-abbrev behind : (x : Field) (xs : List Field) → Slot x → Each Slot xs → Each Slot (x ∷ xs)
-behind x xs s ss = record { 0 = s; 1 = ss }
-
-on-by : (x : Field) (xs : List Field) (make : Each Slot (x ∷ xs) → Message) (f : List ℕ) (s : Slot x) (r : Read (Each Slot xs))
-    → decodedBy (andThen (andThen r (λ ss e. got (behind x xs s ss) e)) (λ slots q. closed f q (make slots))) (length f)
-    ≡ decodedBy (andThen r (λ ss q. closed f q (make (behind x xs s ss)))) (length f)
-on-by x xs make f s (got ss e) = refl
-on-by x xs make f s (bad number place) = refl
-
 module _ {rules : Rules} {f : List ℕ} {whole : Decoded} {x : Field} {xs : List Field} {make : Each Slot (x ∷ xs) → Message} {p : ℕ} where
   -- the field was read: the others are left
   pub on : Left rules f whole (x ∷ xs) make p → {s : Slot x} {q : ℕ} → got s q ≡ read rules x f p → Left rules f whole xs (λ ss. make (record { 0 = s; 1 = ss })) q
-  on left {s} {q} e = record { is = sym (on-by x xs make f s (readEach (read rules) xs f q)) ∙ (rw (← e) at (left .is)) }
+  on left e = record { is = ap (λ (r : Read Message). decodedBy r (length f)) (each-on (read rules) x xs f p (λ slots q. closed f q (make slots)) e) ∙ left .is }
 
   -- the field is at fault
   pub off : Left rules f whole (x ∷ xs) make p → {number place : ℕ} → bad number place ≡ read rules x f p → D.Refused number place ≡ whole
   unfolding decodedBy
-  off left e = rw (← e) at (left .is)
+  off left e = ap (λ (r : Read Message). decodedBy r (length f)) (each-off (read rules) x xs f p (λ slots q. closed f q (make slots)) e) ∙ left .is
 
 -- no field is left
 pub done : {rules : Rules} {f : List ℕ} {whole r : Decoded} {make : Each Slot [] → Message} {p : ℕ} → Left rules f whole [] make p → r ≡ decodedBy (closed f p (make tt)) (length f) → r ≡ whole
 done left e = e ∙ left .is
 
--- ---- a number, read as a signed one or as one of some bytes
-
-module _ (w : ℕ) {r : Read ℕ} where
-  pub signed-got : {n q : ℕ} → got n q ≡ r → got (signedOf w n) q ≡ andThen r (λ n q. got (signedOf w n) q)
-  signed-got e = rw (← e) refl
-
-  pub signed-bad : {number place : ℕ} → bad number place ≡ r → bad number place ≡ andThen r (λ n q. got (signedOf w n) q)
-  signed-bad e = rw (← e) refl
+-- ---- one of some bytes
 
 abbrev allowed : List ℕ → ℕ → Read ℕ → Read ℕ
 allowed bs p r = andThen r (λ b q. cond (isOneOf b bs) (got b q) (bad notAllowed p))

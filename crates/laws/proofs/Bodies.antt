@@ -16,14 +16,13 @@ use Rattle.protocol.specs.Kinds.{Kind}
 use Rattle.protocol.specs.Reading.{Read, got, bad, andThen, read, readEach}
 use Rattle.protocol.specs.Refusals.{bytesLeft}
 use Rattle.protocol.specs.WellFormed.{Contents, bodyBytes, AllInRange, allAble}
-use Rattle.protocol.proofs.Basics.{zero-one}
+use Rattle.protocol.proofs.Basics.{zero-one, left-holds, right-holds}
 use Rattle.protocol.proofs.Find.{every}
 use Rattle.laws.specs.Faults.{LastField}
 use Rattle.laws.proofs.Atoms.{saneAtom, atom-back, AtomWas, atom-was}
 use Rattle.laws.proofs.EachReads.{ReadsBack, AllReadBack, each-reads-back, AllWere, EachWas, each-was}
 use Rattle.laws.proofs.Items.{both, saneItem}
 use Rattle.laws.proofs.Lists.{counted-back, ended-back, FieldWas, counted-was, ended-was}
-use Rattle.laws.proofs.Table.{and-left, and-right}
 
 -- ---- what the bodies of the table are like: the rest of a frame stands only at its end
 
@@ -79,11 +78,11 @@ field-back rules (ended i) cs post t r h l pre = ended-back rules i t cs pre pos
 fields-back : (rules : Rules) (xs : List Field) (c : Each Content xs) → T (every saneField xs) → T (restLast xs) → HoldsEach InRange xs c → ableEach (able rules) xs c ≡ true → AllReadBack bytes slot (read rules) xs c []
 unfolding HoldsEach ableEach bytesOfEach
 fields-back rules [] c t s r h = tt
-fields-back rules (x ∷ []) c t s r h = (field-back rules x (c .0) [] (and-left (saneField x) true t) (r .0) (both _ _ h .0) (last-nothing x), tt)
+fields-back rules (x ∷ []) c t s r h = (field-back rules x (c .0) [] (left-holds (saneField x) true t) (r .0) (both _ _ h .0) (last-nothing x), tt)
 fields-back rules (x ∷ y ∷ ys) c t s r h =
     let b = both _ _ h in
-    let first = field-back rules x (c .0) _ (and-left (saneField x) (every saneField (y ∷ ys)) t) (r .0) (b .0) (last-stops x _ (and-left (stops x) (restLast (y ∷ ys)) s)) in
-    (first, fields-back rules (y ∷ ys) (c .1) (and-right (saneField x) (every saneField (y ∷ ys)) t) (and-right (stops x) (restLast (y ∷ ys)) s) (r .1) (b .1))
+    let first = field-back rules x (c .0) _ (left-holds (saneField x) (every saneField (y ∷ ys)) t) (r .0) (b .0) (last-stops x _ (left-holds (stops x) (restLast (y ∷ ys)) s)) in
+    (first, fields-back rules (y ∷ ys) (c .1) (right-holds (saneField x) (every saneField (y ∷ ys)) t) (right-holds (stops x) (restLast (y ∷ ys)) s) (r .1) (b .1))
 
 -- a body's bytes, up to the frame's end, are read as its content
 pub body-back : {X : Type 0} (rules : Rules) (k : Kind) (make : Each Slot (k .body) → X) (c : Contents k) (pre : List ℕ) → T (every saneField (k .body)) → T (restLast (k .body)) → AllInRange k c → allAble rules k c ≡ true → readBody rules k make (pre ++ bodyBytes k c) (length pre) ≡ got (make (slotsOfEach bytes slot (k .body) (length pre) c)) (length pre + length (bodyBytes k c))
@@ -108,7 +107,7 @@ module _ (rules : Rules) (f : List ℕ) (b : Bytes f) where
 
   fields-were : (xs : List Field) → T (every saneField xs) → EachWas bytes slot (read rules) InRange (able rules) f xs
   fields-were [] t = tt
-  fields-were (x ∷ xs) t = (field-was x (and-left (saneField x) (every saneField xs) t), fields-were xs (and-right (saneField x) (every saneField xs) t))
+  fields-were (x ∷ xs) t = (field-was x (left-holds (saneField x) (every saneField xs) t), fields-were xs (right-holds (saneField x) (every saneField xs) t))
 
   -- a body that was read to the frame's end is the bytes of a right content
   pub record BodyWas {X : Type 0} (k : Kind) (make : Each Slot (k .body) → X) (p : ℕ) (x : X) : Type 0 where

@@ -24,7 +24,7 @@ use Rattle.laws.proofs.Bodies.{body-back}
 use Rattle.laws.proofs.Headers.{tagEnd, afterTag, header-is}
 use Rattle.laws.proofs.Items.{atom-least, each-least}
 use Rattle.laws.proofs.Numbers.{length-be, at-be}
-use Rattle.laws.proofs.Rows.{Sane, row-sane}
+use Rattle.laws.proofs.SaneKinds.{Sane, row-sane}
 use Rattle.laws.proofs.Table.{mode-found, kind-found, smallest-is}
 
 -- ---- a body has at least the bytes that its kind's smallest length asks for

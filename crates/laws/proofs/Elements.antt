@@ -22,6 +22,7 @@ use Rattle.protocol.specs.Reading.{passItems}
 use Rattle.protocol.specs.Refusals.{noSuchElement}
 use Rattle.protocol.specs.WellFormed.{Contents, bodyBytes, header, bodyStart, frame, WellFormed}
 use Rattle.protocol.proofs.Find.{every}
+use Rattle.protocol.proofs.Basics.{left-holds, right-holds}
 use Rattle.laws.specs.ElementStatements.{Elements}
 use Rattle.laws.specs.Items.{Found, itemFrom, found, listItem, AtomsPlaced, Answers}
 use Rattle.laws.specs.Statements.{theElementCall}
@@ -30,9 +31,8 @@ use Rattle.laws.proofs.Complete.{header-long, frame-back, content-back}
 use Rattle.laws.proofs.Fields.{atom-placed}
 use Rattle.laws.proofs.Items.{both, saneItem, item-back}
 use Rattle.laws.proofs.Numbers.{length-be}
-use Rattle.laws.proofs.Rows.{row-sane}
+use Rattle.laws.proofs.SaneKinds.{row-sane}
 use Rattle.laws.proofs.Speaking.{row-speaks, OfList, found-of}
-use Rattle.laws.proofs.Table.{and-left, and-right}
 
 -- what is answered of an item that was found, or of none
 abbrev answerOf : Option Found → Element
@@ -102,11 +102,11 @@ module _ (rules : Rules) where
   found-at : (xs : List Field) (c : Each Content xs) → T (every saneField xs) → HoldsEach InRange xs c → ableEach (able rules) xs c ≡ true → (l n : ℕ) (pre post : List ℕ) → Found-at xs c l n pre post
   unfolding Found-at found listIn slotsOfEach HoldsEach ableEach InRange elementAt
   found-at [] c t r a l n pre post = refl
-  found-at (one x ∷ xs) c t r a l n pre post = after-field (one x) xs c l n pre post (found-at xs (c .1) (and-right (saneField (one x)) (every saneField xs) t) (r .1) (both (able rules (one x) (c .0)) (ableEach (able rules) xs (c .1)) a .1) l n (pre ++ bytes (one x) (c .0)) post)
-  found-at (counted k i ∷ xs) c t r a zero n pre post = first-field (counted k i) xs c 0 n pre post (counted-at i (and-left (saneItem i) (every saneField xs) t) k (c .0) n pre _ (r .0) (both (able rules (counted k i) (c .0)) (ableEach (able rules) xs (c .1)) a .0))
-  found-at (counted k i ∷ xs) c t r a (suc l) n pre post = after-field (counted k i) xs c l n pre post (found-at xs (c .1) (and-right (saneItem i) (every saneField xs) t) (r .1) (both (able rules (counted k i) (c .0)) (ableEach (able rules) xs (c .1)) a .1) l n (pre ++ bytes (counted k i) (c .0)) post)
-  found-at (ended i ∷ xs) c t r a zero n pre post = first-field (ended i) xs c 0 n pre post (ended-at i (and-left (saneItem i) (every saneField xs) t) (c .0) n pre _ (r .0) (both (able rules (ended i) (c .0)) (ableEach (able rules) xs (c .1)) a .0))
-  found-at (ended i ∷ xs) c t r a (suc l) n pre post = after-field (ended i) xs c l n pre post (found-at xs (c .1) (and-right (saneItem i) (every saneField xs) t) (r .1) (both (able rules (ended i) (c .0)) (ableEach (able rules) xs (c .1)) a .1) l n (pre ++ bytes (ended i) (c .0)) post)
+  found-at (one x ∷ xs) c t r a l n pre post = after-field (one x) xs c l n pre post (found-at xs (c .1) (right-holds (saneField (one x)) (every saneField xs) t) (r .1) (both (able rules (one x) (c .0)) (ableEach (able rules) xs (c .1)) a .1) l n (pre ++ bytes (one x) (c .0)) post)
+  found-at (counted k i ∷ xs) c t r a zero n pre post = first-field (counted k i) xs c 0 n pre post (counted-at i (left-holds (saneItem i) (every saneField xs) t) k (c .0) n pre _ (r .0) (both (able rules (counted k i) (c .0)) (ableEach (able rules) xs (c .1)) a .0))
+  found-at (counted k i ∷ xs) c t r a (suc l) n pre post = after-field (counted k i) xs c l n pre post (found-at xs (c .1) (right-holds (saneItem i) (every saneField xs) t) (r .1) (both (able rules (counted k i) (c .0)) (ableEach (able rules) xs (c .1)) a .1) l n (pre ++ bytes (counted k i) (c .0)) post)
+  found-at (ended i ∷ xs) c t r a zero n pre post = first-field (ended i) xs c 0 n pre post (ended-at i (left-holds (saneItem i) (every saneField xs) t) (c .0) n pre _ (r .0) (both (able rules (ended i) (c .0)) (ableEach (able rules) xs (c .1)) a .0))
+  found-at (ended i ∷ xs) c t r a (suc l) n pre post = after-field (ended i) xs c l n pre post (found-at xs (c .1) (right-holds (saneItem i) (every saneField xs) t) (r .1) (both (able rules (ended i) (c .0)) (ableEach (able rules) xs (c .1)) a .1) l n (pre ++ bytes (ended i) (c .0)) post)
 
 -- ---- the parts of the buffer at an item's positions
 

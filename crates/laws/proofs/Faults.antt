@@ -19,7 +19,7 @@ use Rattle.protocol.specs.Each.{Each}
 use Rattle.protocol.specs.Fields.{Atom, unsigned, signed, oneOf, text, value, rest, AtomSlot, atomBytes, Item, itemBytes, itemLeast, itemsBytes, Count, countOf, Field, one, counted, ended}
 use Rattle.protocol.specs.Reading.{Read, got, bad, andThen, readNumber, oneMore, zeroIn, textAt, readText, valueAt, readValue, readAtom, readEach, readItem, passItems, countAt, readCount, readCounted, endedFrom, readEnded, read}
 use Rattle.protocol.specs.Refusals.{badCount, cut, notAllowed}
-use Rattle.protocol.proofs.Basics.{zero-one}
+use Rattle.protocol.proofs.Basics.{zero-one, left-holds, right-holds}
 use Rattle.protocol.proofs.Counts.{Counted, counted-is}
 use Rattle.protocol.proofs.Find.{every}
 use Rattle.protocol.proofs.Numbers.{whole}
@@ -28,7 +28,6 @@ use Rattle.laws.proofs.Atoms.{AtomWas, atom-was}
 use Rattle.laws.proofs.Bodies.{saneField}
 use Rattle.laws.proofs.Items.{inItem, in-item-sane, in-item-last, saneItem, item-least, item-was, ItemsWere, no-items, item-before}
 use Rattle.laws.proofs.Lists.{EndedWere, ended-none, ended-item}
-use Rattle.laws.proofs.Table.{and-left, and-right}
 
 -- where no zero byte is found there is none
 none-by : (b : ℕ) (g : List ℕ) (t : Bool) → eqb b 0 ≡ t → (zeroIn g ≡ none → noZero g ≡ true) → cond t (some 0) (oneMore (zeroIn g)) ≡ none → not t && noZero g ≡ true
@@ -166,11 +165,11 @@ module _ (rules : Rules) (f : List ℕ) (b : Bytes f) where
 
   atoms-fault : (xs : List Atom) → T (every inItem xs) → (p number place : ℕ) → p ≤ length f → readEach (readAtom rules) xs f p ≡ bad number place → AtomsRefused xs p number place
   atoms-fault [] t p number place l e = absurd (zero-one cc)
-  atoms-fault (a ∷ xs) t p number place l e = first-fault a xs p number place (and-left (inItem a) (every inItem xs) t) l (readAtom rules a f p) refl (λ q m r. atoms-fault xs (and-right (inItem a) (every inItem xs) t) q number place m r) e
+  atoms-fault (a ∷ xs) t p number place l e = first-fault a xs p number place (left-holds (inItem a) (every inItem xs) t) l (readAtom rules a f p) refl (λ q m r. atoms-fault xs (right-holds (inItem a) (every inItem xs) t) q number place m r) e
 
   module _ (i : Item) (sane : T (saneItem i)) where
     item-fault : (p number place : ℕ) → p ≤ length f → readItem rules i f p ≡ bad number place → AtomsRefused (i .atoms) p number place
-    item-fault p number place l e = atoms-fault (i .atoms) (and-left (every inItem (i .atoms)) (leb 1 (itemLeast i)) sane) p number place l e
+    item-fault p number place l e = atoms-fault (i .atoms) (left-holds (every inItem (i .atoms)) (leb 1 (itemLeast i)) sane) p number place l e
 
     -- right items, and after them one with a fault
     record ItemRefused (before p stop number place : ℕ) : Type 0 where
@@ -298,7 +297,7 @@ module _ (rules : Rules) (f : List ℕ) (b : Bytes f) where
         record { before = 0; stop = p; were = ended-none rules i sane f b p l; fault = inr (h .0, other, item-fault p number place l (r ∙ handed e)) }
     ended-item-fault turns n p number place x y l m c z (got v q) r ih e =
         let w = item-was rules i sane f b p q v l r in
-        let one = leb→le 1 (itemLeast i) (and-right (every inItem (i .atoms)) (leb 1 (itemLeast i)) sane) in
+        let one = leb→le 1 (itemLeast i) (right-holds (every inItem (i .atoms)) (leb 1 (itemLeast i)) sane) in
         let less : length f ≤ turns + q = omega (arith, w .next, item-least i (w .content)) in
         let h = ih q (w .within) less e in
         record { before = suc (h .before); stop = h .stop; were = ended-item rules i sane f b w c z (h .were); fault = h .fault }

@@ -13,6 +13,7 @@ use Rattle.protocol.specs.Each.{Each, bytesOfEach, ableEach, HoldsEach}
 use Rattle.protocol.specs.Fields.{Atom, unsigned, signed, oneOf, text, value, rest, AtomContent, AtomInRange, atomAble, atomBytes, atomSlot, Item, ItemContent, ItemInRange, itemAble, itemBytes, itemLeast, itemsBytes, ItemsInRange, itemsAble, Field, one, counted, ended, Content, InRange, able, bytes}
 use Rattle.protocol.specs.WellFormed.{bodyBytes, header, frame}
 use Rattle.protocol.proofs.Find.{every}
+use Rattle.protocol.proofs.Basics.{left-holds, right-holds}
 use Rattle.laws.specs.Faults.{LastAtom, LastField}
 use Rattle.laws.specs.ReaderStatements.{theReader, Step, AtomInOrder, AtomsInOrder, ItemsInOrder, FieldInOrder, FieldsInOrder, InOrder}
 use Rattle.laws.proofs.Atoms.{saneAtom, number-back, byte-back, atom-back}
@@ -22,18 +23,17 @@ use Rattle.laws.proofs.Fields.{atom-placed}
 use Rattle.laws.proofs.Items.{both, inItem, saneItem, in-item-sane, in-item-last}
 use Rattle.laws.proofs.Lists.{count-back}
 use Rattle.laws.proofs.Numbers.{length-be, bits-below}
-use Rattle.laws.proofs.Rows.{row-sane}
-use Rattle.laws.proofs.Table.{and-left, and-right}
+use Rattle.laws.proofs.SaneKinds.{row-sane}
 
 -- where the rest of a frame stands only at its end, a field that reads to the end has nothing after it
 last : (x : Field) (xs : List Field) → T (restLast (x ∷ xs)) → (c : Each Content xs) → LastField x (bytesOfEach bytes xs c)
 unfolding bytesOfEach
 last x [] s c = last-nothing x
-last x (y ∷ ys) s c = last-stops x _ (and-left (stops x) (restLast (y ∷ ys)) s)
+last x (y ∷ ys) s c = last-stops x _ (left-holds (stops x) (restLast (y ∷ ys)) s)
 
 last-of : (x : Field) (xs : List Field) → T (restLast (x ∷ xs)) → T (restLast xs)
 last-of x [] s = tt
-last-of x (y ∷ ys) s = and-right (stops x) (restLast (y ∷ ys)) s
+last-of x (y ∷ ys) s = right-holds (stops x) (restLast (y ∷ ys)) s
 
 module _ (rules : Rules) where
   step : (a : Atom) (c : AtomContent a) (pre post : List ℕ) → T (saneAtom a) → AtomInRange a c → atomAble rules a c ≡ true → LastAtom a post
@@ -57,10 +57,10 @@ module _ (rules : Rules) where
       let b = atomBytes a (c .0) in
       let more = bytesOfEach atomBytes xs (c .1) in
       let q : length (pre ++ b) ≡ length pre + length b = length-append pre b in
-      let s = and-left (inItem a) (every inItem xs) t in
+      let s = left-holds (inItem a) (every inItem xs) t in
       let can = both _ _ h in
       let first = atom-in-order a (c .0) pre (more ++ post) (in-item-sane a s) (r .0) (can .0) (in-item-last a _ s) in
-      let then = atoms-in-order xs (c .1) (pre ++ b) post (and-right (inItem a) (every inItem xs) t) (r .1) (can .1) in
+      let then = atoms-in-order xs (c .1) (pre ++ b) post (right-holds (inItem a) (every inItem xs) t) (r .1) (can .1) in
       rw (append-assoc b more post) (first, rw (q, append-assoc pre b (more ++ post)) at then)
 
   module _ (i : Item) (sane : T (saneItem i)) where
@@ -72,7 +72,7 @@ module _ (rules : Rules) where
         let more = itemsBytes i cs in
         let q : length (pre ++ b) ≡ length pre + length b = length-append pre b in
         let can = both _ _ h in
-        let first = atoms-in-order (i .atoms) c pre (more ++ post) (and-left (every inItem (i .atoms)) (leb 1 (itemLeast i)) sane) (r .0) (can .0) in
+        let first = atoms-in-order (i .atoms) c pre (more ++ post) (left-holds (every inItem (i .atoms)) (leb 1 (itemLeast i)) sane) (r .0) (can .0) in
         let then = items-in-order cs (pre ++ b) post (r .1) (can .1) in
         rw (append-assoc b more post) (first, rw (q, append-assoc pre b (more ++ post)) at then)
 
@@ -102,8 +102,8 @@ module _ (rules : Rules) where
       let more = bytesOfEach bytes xs (c .1) in
       let q : length (pre ++ b) ≡ length pre + length b = length-append pre b in
       let can = both _ _ h in
-      let first = field-in-order x (c .0) pre more (and-left (saneField x) (every saneField xs) t) (r .0) (can .0) (last x xs s (c .1)) in
-      let then = fields-in-order xs (c .1) (pre ++ b) (and-right (saneField x) (every saneField xs) t) (last-of x xs s) (r .1) (can .1) in
+      let first = field-in-order x (c .0) pre more (left-holds (saneField x) (every saneField xs) t) (r .0) (can .0) (last x xs s (c .1)) in
+      let then = fields-in-order xs (c .1) (pre ++ b) (right-holds (saneField x) (every saneField xs) t) (last-of x xs s) (r .1) (can .1) in
       (first, rw (q, append-assoc pre b more) at then)
 
 pub in-order : InOrder theReader

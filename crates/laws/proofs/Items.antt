@@ -12,13 +12,12 @@ use Rattle.protocol.specs.Bytes.{Bytes, be}
 use Rattle.protocol.specs.Each.{Each, bytesOfEach, ableEach, HoldsEach, leastOfEach}
 use Rattle.protocol.specs.Fields.{Atom, unsigned, signed, oneOf, text, value, rest, AtomContent, AtomSlot, ValueInRange, AtomInRange, atomAble, valueBytes, atomBytes, atomSlot, atomLeast, Item, ItemContent, ItemInRange, itemAble, itemBytes, itemSlots, itemLeast, itemsBytes, ItemsInRange, itemsAble}
 use Rattle.protocol.specs.Reading.{Read, got, bad, andThen, readAtom, readItem, passItems}
-use Rattle.protocol.proofs.Basics.{zero-one}
+use Rattle.protocol.proofs.Basics.{zero-one, left-holds, right-holds}
 use Rattle.protocol.proofs.Find.{every}
 use Rattle.laws.specs.Faults.{LastAtom}
 use Rattle.laws.proofs.Atoms.{saneAtom, atom-back, atom-was}
 use Rattle.laws.proofs.EachReads.{AllReadBack, each-reads-back, AllWere, EachWas, each-was}
 use Rattle.laws.proofs.Numbers.{length-be, bytes-append}
-use Rattle.laws.proofs.Table.{and-left, and-right}
 
 -- both of two tests passed
 pub both : (a b : Bool) → a && b ≡ true → (a ≡ true) × (b ≡ true)
@@ -62,14 +61,14 @@ atoms-back : (rules : Rules) (xs : List Atom) (c : Each AtomContent xs) (post : 
 unfolding HoldsEach ableEach
 atoms-back rules [] c post t r h = tt
 atoms-back rules (a ∷ xs) c post t r h =
-    let s = and-left (inItem a) (every inItem xs) t in
+    let s = left-holds (inItem a) (every inItem xs) t in
     let b = both _ _ h in
-    (atom-back rules a (c .0) _ (in-item-sane a s) (r .0) (b .0) (in-item-last a _ s), atoms-back rules xs (c .1) post (and-right (inItem a) (every inItem xs) t) (r .1) (b .1))
+    (atom-back rules a (c .0) _ (in-item-sane a s) (r .0) (b .0) (in-item-last a _ s), atoms-back rules xs (c .1) post (right-holds (inItem a) (every inItem xs) t) (r .1) (b .1))
 
 module _ (rules : Rules) (i : Item) (sane : T (saneItem i)) where
   pub item-back : (c : ItemContent i) (pre post : List ℕ) → ItemInRange i c → itemAble rules i c ≡ true → readItem rules i (pre ++ (itemBytes i c ++ post)) (length pre) ≡ got (itemSlots i (length pre) c) (length pre + length (itemBytes i c))
   unfolding itemBytes itemSlots ItemInRange itemAble
-  item-back c pre post r h = each-reads-back atomBytes atomSlot (readAtom rules) (i .atoms) c pre post (atoms-back rules (i .atoms) c post (and-left (every inItem (i .atoms)) (leb 1 (itemLeast i)) sane) r h)
+  item-back c pre post r h = each-reads-back atomBytes atomSlot (readAtom rules) (i .atoms) c pre post (atoms-back rules (i .atoms) c post (left-holds (every inItem (i .atoms)) (leb 1 (itemLeast i)) sane) r h)
 
   -- items one after the other
   pub pass-back : (cs : List (ItemContent i)) (pre post : List ℕ) → ItemsInRange i cs → itemsAble rules i cs ≡ true → passItems rules i (length cs) (pre ++ (itemsBytes i cs ++ post)) (length pre) ≡ got tt (length pre + length (itemsBytes i cs))
@@ -162,10 +161,10 @@ pub record ItemsWere (rules : Rules) (i : Item) (f : List ℕ) (n p q : ℕ) : T
 module _ (rules : Rules) (i : Item) (sane : T (saneItem i)) (f : List ℕ) (b : Bytes f) where
   atoms-were : (xs : List Atom) → T (every inItem xs) → EachWas atomBytes atomSlot (readAtom rules) AtomInRange (atomAble rules) f xs
   atoms-were [] t = tt
-  atoms-were (a ∷ xs) t = (λ p q v l e. atom-was rules f b p a (in-item-sane a (and-left (inItem a) (every inItem xs) t)) v q l e, atoms-were xs (and-right (inItem a) (every inItem xs) t))
+  atoms-were (a ∷ xs) t = (λ p q v l e. atom-was rules f b p a (in-item-sane a (left-holds (inItem a) (every inItem xs) t)) v q l e, atoms-were xs (right-holds (inItem a) (every inItem xs) t))
 
   pub item-was : (p q : ℕ) (v : Each AtomSlot (i .atoms)) → p ≤ length f → readItem rules i f p ≡ got v q → ItemWas rules i f p v q
-  item-was p q v l e = each-was atomBytes atomSlot (readAtom rules) AtomInRange (atomAble rules) f (i .atoms) p q v l (atoms-were (i .atoms) (and-left (every inItem (i .atoms)) (leb 1 (itemLeast i)) sane)) e
+  item-was p q v l e = each-was atomBytes atomSlot (readAtom rules) AtomInRange (atomAble rules) f (i .atoms) p q v l (atoms-were (i .atoms) (left-holds (every inItem (i .atoms)) (leb 1 (itemLeast i)) sane)) e
 
   -- none, and one before others
   unfoldable pub no-items : (p : ℕ) → p ≤ length f → ItemsWere rules i f 0 p p

@@ -5,7 +5,7 @@ pub mod Atoms
 pub mod Items
 pub mod Lists
 pub mod Bodies
-pub mod Rows
+pub mod SaneKinds
 pub mod Complete
 pub mod Sound
 pub mod Fields

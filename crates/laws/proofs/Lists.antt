@@ -16,7 +16,7 @@ use Rattle.protocol.specs.Bytes.{Bytes, be, signedOf, bitsOf}
 use Rattle.protocol.specs.Each.{Each}
 use Rattle.protocol.specs.Fields.{AtomSlot, Item, ItemContent, itemBytes, itemLeast, itemsBytes, ItemsInRange, itemsAble, zeroFirst, noneEnds, Count, signedCount, countOf, most, Field, counted, ended, Slot, InRange, able, bytes, slot}
 use Rattle.protocol.specs.Reading.{Read, got, bad, andThen, readNumber, readItem, passItems, countAt, readCount, readCounted, endedFrom, readEnded, read}
-use Rattle.protocol.proofs.Basics.{zero-one}
+use Rattle.protocol.proofs.Basics.{zero-one, right-holds}
 use Rattle.protocol.proofs.Counts.{Counted, counted-is}
 use Rattle.protocol.proofs.Find.{every}
 use Rattle.protocol.proofs.Numbers.{lower}
@@ -24,7 +24,6 @@ use Rattle.laws.proofs.Atoms.{byte-be, number-back, byte-back, number-w
 use Rattle.laws.proofs.EachReads.{Was}
 use Rattle.laws.proofs.Items.{both, inItem, saneItem, item-bytes, item-back, pass-back, item-least, items-least, ItemWas, ItemsWere, item-was, no-items, item-before, pass-was}
 use Rattle.laws.proofs.Numbers.{length-be, signed-in-range, bits-signed}
-use Rattle.laws.proofs.Table.{and-right}
 
 -- a count that can be written has two bytes and is read as it is
 pub count-back : (k : Count) (n : ℕ) → n ≤ most k → (n < 256 ^ 2) × (countOf k n ≡ pos n)
@@ -64,7 +63,7 @@ module _ (rules : Rules) (i : Item) (sane : T (saneItem i)) where
       let t = itemsBytes i cs ++ 0 ∷ [] in
       let able = both _ _ h in
       let ends = both _ _ z in
-      let some : 1 ≤ length b = omega (arith, item-least i c, leb→le 1 (itemLeast i) (and-right (every inItem (i .atoms)) (leb 1 (itemLeast i)) sane)) in
+      let some : 1 ≤ length b = omega (arith, item-least i c, leb→le 1 (itemLeast i) (right-holds (every inItem (i .atoms)) (leb 1 (itemLeast i)) sane)) in
       let first = first-byte b (t ++ post) some (not-true _ (ends .0)) (item-bytes i c (r .0)) pre in
       let q : length (pre ++ b) ≡ length pre + length b = length-append pre b in
       let ih = ended-from-back cs (pre ++ b) post turns (suc n) (r .1) (able .1) (ends .1) (omega arith) in
@@ -77,7 +76,7 @@ module _ (rules : Rules) (i : Item) (sane : T (saneItem i)) where
   ended-back cs pre post r h =
       let able = both (itemsAble rules i cs) (noneEnds i cs) h in
       let f = pre ++ ((itemsBytes i cs ++ 0 ∷ []) ++ post) in
-      let one = leb→le 1 (itemLeast i) (and-right (every inItem (i .atoms)) (leb 1 (itemLeast i)) sane) in
+      let one = leb→le 1 (itemLeast i) (right-holds (every inItem (i .atoms)) (leb 1 (itemLeast i)) sane) in
       let l : length cs < length f = simp length-append (omega (arith, items-least i cs, mul-le-mul-left (length cs) one)) in
       let m : 0 + length cs ≡ length cs = omega arith in
       rw (ended-from-back cs pre post (length f) 0 r (able .0) (able .1) l, m) refl
@@ -148,7 +147,7 @@ module _ (rules : Rules) (i : Item) (sane : T (saneItem i)) (f : List ℕ) (b : 
   unfolding noneEnds itemBytes item-before
   ended-item {n} {p} {a} {q} {x} {y} h r z t =
       let first = number-was 1 f p x y b r in
-      let one = leb→le 1 (itemLeast i) (and-right (every inItem (i .atoms)) (leb 1 (itemLeast i)) sane) in
+      let one = leb→le 1 (itemLeast i) (right-holds (every inItem (i .atoms)) (leb 1 (itemLeast i)) sane) in
       let some : 1 ≤ length (itemBytes i (h .content)) = omega (arith, item-least i (h .content)) in
       let front : itemBytes i (h .content) ++ drop a f ≡ x ∷ drop y f = sym (h .split) ∙ first .split ∙ ap (λ (bs : List ℕ). bs ++ drop y f) (sym (byte-be x (first .below))) in
       let other = not-ending (itemBytes i (h .content)) (drop a f) (drop y f) x some front z in

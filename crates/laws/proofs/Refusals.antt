@@ -24,7 +24,7 @@ use Rattle.protocol.specs.Kinds.{Envelope, typed, untyped, bare, Kind, Mode, mo
 use Rattle.protocol.specs.Reading.{Read, got, bad, andThen, read, readEach}
 use Rattle.protocol.specs.Refusals.{modeUnknown, typeUnknown, lengthTooSmall, lengthAboveLimit, bytesLeft}
 use Rattle.protocol.specs.WellFormed.{lengthOf, bodyStart}
-use Rattle.protocol.proofs.Basics.{zero-one}
+use Rattle.protocol.proofs.Basics.{zero-one, left-holds, right-holds}
 use Rattle.protocol.proofs.Framed.{Framing, Framed, framed-is, framed-ends}
 use Rattle.protocol.proofs.Find.{every}
 use Rattle.laws.specs.Faults.{LastField, FieldBefore, BodyFault, left, here, later, LengthFault, Unknown, HeaderFault, FrameEnds}
@@ -36,8 +36,8 @@ use Rattle.laws.proofs.Faults.{handed, field-fault}
 use Rattle.laws.proofs.Headers.{tagEnd, afterTag, header-is}
 use Rattle.laws.proofs.Numbers.{bytes-take}
 use Rattle.laws.proofs.Refused.{body-refused}
-use Rattle.laws.proofs.Rows.{row-sane}
-use Rattle.laws.proofs.Table.{and-left, and-right, mode-found, kind-found, smallest-is}
+use Rattle.laws.proofs.SaneKinds.{row-sane}
+use Rattle.laws.proofs.Table.{mode-found, kind-found, smallest-is}
 
 -- ---- bodies
 
@@ -90,7 +90,7 @@ module _ (rules : Rules) (f : List ℕ) (b : Bytes f) where
   unfolding closed
   fields-fault [] make p number place t l e = left-fault (make tt) p number place l (ltb p (length f)) refl e
   fields-fault (x ∷ xs) make p number place t l e =
-      field-by x xs make p number place (and-left (saneField x) (every saneField xs) t) l (read rules x f p) refl (λ q v m r. fields-fault xs (λ ss. make (record { 0 = v; 1 = ss })) q number place (and-right (saneField x) (every saneField xs) t) m r) e
+      field-by x xs make p number place (left-holds (saneField x) (every saneField xs) t) l (read rules x f p) refl (λ q v m r. fields-fault xs (λ ss. make (record { 0 = v; 1 = ss })) q number place (right-holds (saneField x) (every saneField xs) t) m r) e
 
 -- ---- headers
 

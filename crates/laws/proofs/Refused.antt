@@ -20,11 +20,11 @@ use Rattle.protocol.specs.Fields.{Atom, unsigned, signed, oneOf, text, value, r
 use Rattle.protocol.specs.Reading.{Read, got, bad, andThen, readNumber, oneMore, zeroIn, textAt, readText, valueAt, readValue, readAtom, readEach, readItem, passItems, countAt, readCount, readCounted, endedFrom, readEnded, read}
 use Rattle.protocol.specs.Refusals.{badCount, cut, notAllowed, bytesLeft}
 use Rattle.protocol.proofs.Find.{every}
+use Rattle.protocol.proofs.Basics.{left-holds, right-holds}
 use Rattle.laws.specs.Faults.{Short, AtomFault, AtomBefore, AtomsFault, here, later, CountFault, ItemFault, EndedFault, FieldFault, FieldBefore, BodyFault, left, here, later}
 use Rattle.laws.proofs.Atoms.{atom-back}
 use Rattle.laws.proofs.Bodies.{saneField, field-back}
 use Rattle.laws.proofs.Items.{both, inItem, in-item-sane, in-item-last, saneItem, item-back, item-least}
-use Rattle.laws.proofs.Table.{and-left, and-right}
 
 -- ---- a string with no zero byte
 
@@ -99,19 +99,19 @@ module _ (f : List ℕ) where
         let z : p ≡ p + 0 = omega arith in
         rw (atom-refused rules p l a number (rw (← q) at h)) (ap (bad number) z)
     atoms-refused (a ∷ xs) t p number at g l q (later {h = h} {first = first} {at = inside} before fault) =
-        let s = and-left (inItem a) (every inItem xs) t in
+        let s = left-holds (inItem a) (every inItem xs) t in
         let b = atomBytes a (before .content) in
         let w = past (readAtom rules a) (λ n. atomSlot a n (before .content)) b h p l (q ∙ before .split) (atom-back rules a (before .content) h (in-item-sane a s) (before .inRange) (before .writable) (before .last)) in
-        let r = atoms-refused xs (and-right (inItem a) (every inItem xs) t) (p + length b) number inside h (w .within) (w .after) fault in
+        let r = atoms-refused xs (right-holds (inItem a) (every inItem xs) t) (p + length b) number inside h (w .within) (w .after) fault in
         let e : p + length b + inside ≡ p + (first + inside) = omega (arith, before .place) in
         rw (w .is, r) (ap (bad number) e)
 
     module _ (i : Item) (sane : T (saneItem i)) where
       inside-item : T (every inItem (i .atoms))
-      inside-item = and-left (every inItem (i .atoms)) (leb 1 (itemLeast i)) sane
+      inside-item = left-holds (every inItem (i .atoms)) (leb 1 (itemLeast i)) sane
 
       one-byte : 1 ≤ itemLeast i
-      one-byte = leb→le 1 (itemLeast i) (and-right (every inItem (i .atoms)) (leb 1 (itemLeast i)) sane)
+      one-byte = leb→le 1 (itemLeast i) (right-holds (every inItem (i .atoms)) (leb 1 (itemLeast i)) sane)
 
       -- an item that is right, before others
       item-past : (c : ItemContent i) (cs : List (ItemContent i)) (p : ℕ) (h : List ℕ) → p ≤ length f → drop p f ≡ itemsBytes i (c ∷ cs) ++ h → ItemsInRange i (c ∷ cs) → itemsAble rules i (c ∷ cs) ≡ true
@@ -248,12 +248,12 @@ module _ (f : List ℕ) where
         let m : p < length f = omega (arith, simp length-drop at (rw (← q) at h)) in
         let e : p ≡ p + 0 = omega arith in
         rw (lt-ltb _ _ m) (ap (bad bytesLeft) e)
-    body-refused (x ∷ xs) make t p number at g l q (here h) = rw (field-refused x (and-left (saneField x) (every saneField xs) t) p number at l (rw (← q) at h)) refl
+    body-refused (x ∷ xs) make t p number at g l q (here h) = rw (field-refused x (left-holds (saneField x) (every saneField xs) t) p number at l (rw (← q) at h)) refl
     body-refused (x ∷ xs) make t p number at g l q (later {h = h} {first = first} {at = inside} before fault) =
-        let s = and-left (saneField x) (every saneField xs) t in
+        let s = left-holds (saneField x) (every saneField xs) t in
         let c = before .content in
         let b = bytes x c in
         let w = past (read rules x) (λ n. slot x n c) b h p l (q ∙ before .split) (field-back rules x c h s (before .inRange) (before .writable) (before .last)) in
-        let ih = body-refused xs (λ v. make (record { 0 = slot x p c; 1 = v })) (and-right (saneField x) (every saneField xs) t) (p + length b) number inside h (w .within) (w .after) fault in
+        let ih = body-refused xs (λ v. make (record { 0 = slot x p c; 1 = v })) (right-holds (saneField x) (every saneField xs) t) (p + length b) number inside h (w .within) (w .after) fault in
         let e : p + length b + inside ≡ p + (first + inside) = omega (arith, before .place) in
         rw (w .is) (later-by x xs make (slot x p c) (readEach (read rules) xs f (p + length b)) ih ∙ ap (bad number) e)

@@ -21,7 +21,7 @@ use Rattle.laws.proofs.Answered.{recorded}
 use Rattle.laws.proofs.Atoms.{byte-be}
 use Rattle.laws.proofs.Bodies.{body-was}
 use Rattle.laws.proofs.Numbers.{bytes-take, be-at, number-at-below, bits-signed}
-use Rattle.laws.proofs.Rows.{Sane, row-sane}
+use Rattle.laws.proofs.SaneKinds.{Sane, row-sane}
 use Rattle.laws.proofs.Table.{mode-found, kind-found}
 
 -- ---- a header that was read is the bytes before the body

@@ -11,8 +11,8 @@ use Rattle.protocol.specs.Elements.{valueOr}
 use Rattle.protocol.specs.Fields.{AtomSlot, Item, ItemContent, itemBytes, Field, one, counted, ended, Content}
 use Rattle.protocol.specs.Kinds.{Kind, Mode, modes, IsIn, oid, format, nullable, rowField, errorField, valueElement}
 use Rattle.protocol.specs.Kinds.{the-table}
+use Rattle.protocol.proofs.Find.{All, in-all}
 use Rattle.laws.specs.Items.{Found, itemFrom, found, listItem}
-use Rattle.laws.proofs.Table.{All, in-all}
 
 -- its elements are answers, and where it is no value the second form hands back nothing of them
 pub record Speaks (i : Item) : Type 0 where

@@ -12,32 +12,10 @@ use Rattle.protocol.specs.Each.{leastOfEach}
 use Rattle.protocol.specs.Fields.{least}
 use Rattle.protocol.specs.Kinds.{Envelope, Kind, Mode, modes, IsIn, find, modeOf, kindIn}
 use Rattle.protocol.specs.WellFormed.{lengthOf}
-use Rattle.protocol.proofs.Basics.{zero-one}
-use Rattle.protocol.proofs.Find.{every, numberOf, tagOf}
+use Rattle.protocol.proofs.Basics.{zero-one, left-holds, right-holds}
+use Rattle.protocol.proofs.Find.{every, every-in, numberOf, tagOf}
 use Rattle.protocol.specs.Kinds.{the-table}
 use Rattle.laws.specs.Statements.{Table}
-
-pub and-left : (a b : Bool) → T (a && b) → T a
-and-left true b t = tt
-and-left false b t = t
-
-pub and-right : (a b : Bool) → T (a && b) → T b
-and-right true b t = t
-and-right false b t = absurd t
-
--- what holds of each holds of one
-abbrev pub All : {A : Type 0} → (A → Type 0) → List A → Type 0
-All P [] = Unit {0}
-All P (x ∷ xs) = P x × All P xs
-
-pub in-all : {A : Type 0} (P : A → Type 0) (xs : List A) → All P xs → (x : A) → IsIn x xs → P x
-in-all P (y ∷ ys) h x (inl e) = rw e (h .0)
-in-all P (y ∷ ys) h x (inr i) = in-all P ys (h .1) x i
-
--- a test that passes of each passes of one
-pub every-in : {A : Type 0} (test : A → Bool) (xs : List A) → T (every test xs) → (x : A) → IsIn x xs → T (test x)
-every-in test (y ∷ ys) t x (inl e) = rw e (and-left (test y) (every test ys) t)
-every-in test (y ∷ ys) t x (inr i) = every-in test ys (and-right (test y) (every test ys) t) x i
 
 -- ---- smallest lengths
 
@@ -89,8 +67,8 @@ module _ {A : Type 0} (key : A → ℕ) where
   unfolding find
   finds (y ∷ ys) d n x (inl q) e = rw (eq-eqb n (key y) (sym e ∙ ap key q)) (ap some (sym q))
   finds (y ∷ ys) d n x (inr i) e =
-      let f = and-left (fresh (key y) ys) (distinct ys) d in
-      rw (ne-eqb n (key y) (λ q. not-fresh (key y) ys f x i (e ∙ q))) (finds ys (and-right (fresh (key y) ys) (distinct ys) d) n x i e)
+      let f = left-holds (fresh (key y) ys) (distinct ys) d in
+      rw (ne-eqb n (key y) (λ q. not-fresh (key y) ys f x i (e ∙ q))) (finds ys (right-holds (fresh (key y) ys) (distinct ys) d) n x i e)
 
   -- so what is found by n is the one in the list whose key is n
   found-is : (xs : List A) → T (distinct xs) → (n : ℕ) (x : A) → (find key n xs ≡ some x) ↔ (IsIn x xs × (key x ≡ n))

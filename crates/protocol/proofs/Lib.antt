@@ -6,3 +6,4 @@ pub mod Ended
 pub mod Framed
 pub mod Open
 pub mod Views
+pub mod OneByOne

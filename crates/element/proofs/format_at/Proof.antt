@@ -5,7 +5,7 @@ use mir.Syntax.{w16}
 use Rattle.protocol.specs.Elements.{elementBy}
 use Rattle.protocol.specs.Kinds.{format}
 use Rattle.codec.proofs.Lists.{format-steady}
-use Rattle.codec.proofs.Signs.{back}
+use Rattle.protocol.proofs.Basics.{back}
 use Rattle.element.proofs.Reached.{reached-steady}
 use Rattle.element.proofs.format_at.Statement.{statement}
 use Rattle.element.proofs.format_at.Tie as tie

@@ -2,7 +2,7 @@
 use mathlib.Core.Path.{refl}
 use borrow.Author.Needs.{needs}
 use mir.Syntax.{w8}
-use Rattle.codec.proofs.Signs.{back}
+use Rattle.protocol.proofs.Basics.{back}
 use Rattle.protocol.specs.Kinds.{copyInResponse, copyOutResponse, copyBothResponse}
 use Rattle.messages.proofs.copy.copy_message.Statement.{statement}
 use Rattle.messages.proofs.copy.copy_message.Tie as tie

@@ -10,12 +10,13 @@ use Rattle.protocol.specs.Bytes.{signedOf}
 use Rattle.protocol.specs.Each.{Each}
 use Rattle.protocol.specs.Fields.{Field, Slot}
 use Rattle.protocol.specs.Kinds.{typed, formats}
+use Rattle.protocol.proofs.OneByOne.{signed-got, signed-bad}
 use Rattle.codec.specs.Answers.{byteRead, listedRead}
-use Rattle.codec.proofs.Signs.{back}
+use Rattle.protocol.proofs.Basics.{back}
 use Rattle.envelope.specs.Steps.{decodeMade, refusalOf}
 use Rattle.messages.specs.Shared.{copyFields, copyMessage}
 use Rattle.envelope.proofs.Points as P
-use Rattle.envelope.proofs.Points.{on, off, done, begin-made, none-made, ends, signed-got, signed-bad}
+use Rattle.envelope.proofs.Points.{on, off, done, begin-made, none-made, ends}
 use Rattle.messages.proofs.copy.copy_response.Statement.{statement}
 use Rattle.messages.proofs.copy.copy_response.Tie as tie
 

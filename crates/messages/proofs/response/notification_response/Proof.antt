@@ -12,10 +12,11 @@ use Rattle.protocol.specs.Each.{Each}
 use Rattle.protocol.specs.Fields.{Field, Slot}
 use Rattle.protocol.specs.Kinds.{typed, string, notificationResponse}
 use Rattle.protocol.specs.Records as R
+use Rattle.protocol.proofs.OneByOne.{signed-got, signed-bad}
 use Rattle.codec.specs.Answers.{textRead, wordRead}
-use Rattle.codec.proofs.Signs.{back}
+use Rattle.protocol.proofs.Basics.{back}
 use Rattle.envelope.proofs.Points as P
-use Rattle.envelope.proofs.Points.{on, off, done, begin, none, ends, signed-got, signed-bad}
+use Rattle.envelope.proofs.Points.{on, off, done, begin, none, ends}
 use Rattle.messages.proofs.response.notification_response.Statement.{statement}
 use Rattle.messages.proofs.response.notification_response.Tie as tie
 

@@ -6,10 +6,10 @@ use lib.Dec.{T, ltb, ltb→lt, eqb, eqb→eq}
 use Rattle.protocol.specs.Each.{leastOfEach}
 use Rattle.protocol.specs.Fields.{itemLeast}
 use Rattle.protocol.specs.Kinds.{Envelope, typed, untyped, bare, Kind, Mode, modes, IsIn}
-use Rattle.protocol.proofs.Find.{every}
+use Rattle.protocol.proofs.Find.{every, every-in}
 use Rattle.protocol.specs.Kinds.{the-table}
+use Rattle.protocol.proofs.Basics.{left-holds, right-holds}
 use Rattle.laws.proofs.Bodies.{saneField, restLast}
-use Rattle.laws.proofs.Table.{and-left, and-right, every-in}
 
 -- how many bytes a tag has
 abbrev pub tagWidth : Envelope → ℕ
@@ -59,15 +59,15 @@ is-alone bare k t = eqb→eq _ _ t
 
 sane-by : (e : Envelope) (k : Kind) → T (saneKind e k) → Sane e k
 sane-by e k t =
-    let outer = and-left (saneHeader e k && alone e k) (saneBody k) t in
-    let header = and-left (saneHeader e k) (alone e k) outer in
-    let body = and-right (saneHeader e k && alone e k) (saneBody k) t in
+    let outer = left-holds (saneHeader e k && alone e k) (saneBody k) t in
+    let header = left-holds (saneHeader e k) (alone e k) outer in
+    let body = right-holds (saneHeader e k && alone e k) (saneBody k) t in
     record {
-      tag = ltb→lt _ _ (and-left (ltb (k .tag) (256 ^ tagWidth e)) (ltb (k .limit) (256 ^ 4 / 2)) header);
-      limit = ltb→lt _ _ (and-right (ltb (k .tag) (256 ^ tagWidth e)) (ltb (k .limit) (256 ^ 4 / 2)) header);
-      alone = is-alone e k (and-right (saneHeader e k) (alone e k) outer);
-      fields = and-left (every saneField (k .body)) (restLast (k .body)) body;
-      last = and-right (every saneField (k .body)) (restLast (k .body)) body;
+      tag = ltb→lt _ _ (left-holds (ltb (k .tag) (256 ^ tagWidth e)) (ltb (k .limit) (256 ^ 4 / 2)) header);
+      limit = ltb→lt _ _ (right-holds (ltb (k .tag) (256 ^ tagWidth e)) (ltb (k .limit) (256 ^ 4 / 2)) header);
+      alone = is-alone e k (right-holds (saneHeader e k) (alone e k) outer);
+      fields = left-holds (every saneField (k .body)) (restLast (k .body)) body;
+      last = right-holds (every saneField (k .body)) (restLast (k .body)) body;
     }
 
 pub row-sane : (m : Mode) → IsIn m modes → (k : Kind) → IsIn k (m .kinds) → Sane (m .envelope) k
