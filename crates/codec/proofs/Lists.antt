@@ -10,7 +10,7 @@ use Rattle.protocol.specs.declared.List.{List as ListSlot}
 use Rattle.protocol.specs.declared.Rules.{Rules}
 use Rattle.protocol.specs.Bytes.{numberAt, signedOf}
 use Rattle.protocol.specs.Each.{leastOfEach}
-use Rattle.protocol.specs.Fields.{Item, itemLeast, signedCount, counted}
+use Rattle.protocol.specs.Fields.{Item, itemLeast, most, signedCount, counted}
 use Rattle.protocol.specs.Kinds.{oid, format}
 use Rattle.protocol.specs.Reading.{Read, got, bad, andThen, read, readNumber, passItems, countAt, readCount, readCounted}
 use Rattle.protocol.specs.Refusals.{badCount, cut}
@@ -29,15 +29,15 @@ module _ (least : ℕ) (f : List ℕ) (p : ℕ) where
     unfolding readCount
     by-sign z s = rw (← e, s) refl
 
-    pub count-negative : 32767 < n → bad badCount p ≡ readCount signedCount least f p
+    pub count-negative : most signedCount < n → bad badCount p ≡ readCount signedCount least f p
     unfolding countAt
     count-negative h = sym (by-sign _ (upper 2 n (omega arith)))
 
-    pub count-large : n ≤ 32767 → length f - q < n * least → bad badCount p ≡ readCount signedCount least f p
+    pub count-large : n ≤ most signedCount → length f - q < n * least → bad badCount p ≡ readCount signedCount least f p
     unfolding countAt
     count-large l h = sym (by-sign (pos n) (lower 2 n (omega arith)) ∙ rw (lt-leb (n * least) (length f - q) h) refl)
 
-    pub count-got : n ≤ 32767 → n * least ≤ length f - q → got (record { start = q; count = n }) q ≡ readCount signedCount least f p
+    pub count-got : n ≤ most signedCount → n * least ≤ length f - q → got (record { start = q; count = n }) q ≡ readCount signedCount least f p
     unfolding countAt
     count-got l h = sym (by-sign (pos n) (lower 2 n (omega arith)) ∙ rw (le-leb (n * least) (length f - q) h) refl)
 

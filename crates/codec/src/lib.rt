@@ -13,10 +13,15 @@ ghost use Rattle.codec.specs.Fixed.{readFixed};
 use protocol::List;
 use protocol::Rules;
 use protocol::Span;
+use protocol::kinds::LONGEST;
+use protocol::kinds::MOST_SIGNED;
 use protocol::refusal::BAD_COUNT;
 use protocol::refusal::CUT;
 use protocol::refusal::NOT_ALLOWED;
 use scan::zero_from;
+
+// The most elements of a list, as its count has them.
+const MOST: u16 = MOST_SIGNED as u16;
 
 pub struct Cursor {
     pub at: usize,
@@ -188,7 +193,7 @@ impl Cursor {
         if len == 4294967295 {
             return Value::Null(c);
         }
-        if 2147483647 < len {
+        if LONGEST < len {
             return Value::BelowNull;
         }
         let start = c.at;
@@ -223,7 +228,7 @@ impl Cursor {
         let Half::Is(count, c) = self.half(frame) else {
             return Listed::Refused(CUT, at);
         };
-        if 32767 < count {
+        if MOST < count {
             return Listed::Refused(BAD_COUNT, at);
         }
         let start = c.at;

@@ -14,6 +14,7 @@ use protocol::Decoded;
 use protocol::Message;
 use protocol::Rules;
 use protocol::kinds::Bounds;
+use protocol::kinds::LONGEST;
 use protocol::refusal::BYTES_LEFT;
 use protocol::refusal::LENGTH_ABOVE_LIMIT;
 use protocol::refusal::LENGTH_TOO_SMALL;
@@ -30,15 +31,12 @@ pub enum Header {
     Refused(u8, usize),
 }
 
-// The largest length that a signed word can tell: one above it is negative.
-const LARGEST: u32 = 2147483647;
-
 // The length's checks. The length word stands at `place`, and counts itself and all that follows it; `have` bytes are there.
 fn frame_end(length: u32, bounds: Bounds, place: u8, have: usize) -> Header
     ensures { λ r. ⌜ r ≡ endOf bounds place have (signedOf 4 «length») ⌝ }
 {
     let place = place as usize;
-    if LARGEST < length {
+    if LONGEST < length {
         return Header::Refused(LENGTH_TOO_SMALL, place);
     }
     if length < bounds.0 {

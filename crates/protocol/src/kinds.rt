@@ -9,6 +9,9 @@ pub const SMALL: u32 = 8192;
 // The most elements of a list: the largest count of two bytes that is not negative.
 pub const MOST_SIGNED: usize = 32767;
 
+// The largest length that a signed word can tell: above it, the word is negative.
+pub const LONGEST: u32 = 2147483647;
+
 // The bytes of the longest typed frame of all: a type byte is not counted by the length.
 pub const LARGE_FRAME: usize = LARGE as usize + 1;
 

@@ -12,6 +12,7 @@ use decode::decode;
 use protocol::Decoded;
 use protocol::List;
 use protocol::Message;
+use protocol::kinds;
 use protocol::refusal::NO_SUCH_ELEMENT;
 use protocol::refusal::OUTPUT_TOO_SHORT;
 
@@ -28,8 +29,8 @@ pub enum Entry {
     Stop,
 }
 
-// The largest signed word.
-const LONGEST: usize = 2147483647;
+// The largest length that a signed word can tell.
+const LONGEST: usize = kinds::LONGEST as usize;
 
 fn signed_length(n: usize) -> i32
     ensures { λ r. ⌜ r ≡ lengthWord n ⌝ }
