@@ -31,7 +31,7 @@ fn pass(s: &[u8], i: usize, width: usize) -> usize
     if s.len() - i < width {
         return i;
     }
-    if clear(s, i, width) { i + width } else { i }
+    if clear(&*s, i, width) { i + width } else { i }
 }
 
 // Past blocks of `width` bytes, up to one that holds a zero.
@@ -45,7 +45,7 @@ fn pass_blocks(s: &[u8], from: usize, width: usize) -> usize
     let last = s.len() - width;
     let mut i = from;
     while i <= last {
-        if !clear(s, i, width) {
+        if !clear(&*s, i, width) {
             return i;
         }
         i += width;
@@ -58,9 +58,9 @@ fn pass_far(s: &[u8], from: usize) -> usize
     requires { ⌜ from ≤ length (now s) ⌝ }
     ensures { λ r. ⌜ Passed (now (s .entry)) from r ⌝ }
 {
-    let i = pass_blocks(s, from, 64);
-    let i = pass(s, i, 32);
-    pass(s, i, 16)
+    let i = pass_blocks(&*s, from, 64);
+    let i = pass(&*s, i, 32);
+    pass(&*s, i, 16)
 }
 
 // The scan by single bytes.
@@ -82,7 +82,7 @@ fn near(s: &[u8], from: usize) -> usize
     requires { ⌜ from ≤ length (now s) ⌝ }
     ensures { λ r. ⌜ r ≡ zeroFrom (now (s .entry)) from ⌝ }
 {
-    plain(s, pass(s, from, 8))
+    plain(&*s, pass(&*s, from, 8))
 }
 
 // The first block is small, so that a short string costs little.
@@ -93,10 +93,10 @@ pub fn zero_from(s: &[u8], from: usize) -> usize
         return from;
     }
     if s.len() - from < 16 {
-        return near(s, from);
+        return near(&*s, from);
     }
-    if !clear(s, from, 16) {
-        return near(s, from);
+    if !clear(&*s, from, 16) {
+        return near(&*s, from);
     }
-    near(s, pass_far(s, from + 16))
+    near(&*s, pass_far(&*s, from + 16))
 }
