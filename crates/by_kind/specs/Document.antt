@@ -22,7 +22,7 @@ use Rattle.by_kind.specs.FieldNames.{Holds, number, integer, part, orNul
 infix 80 _∶_
 -- ---- the words of the tables
 
--- what stands on the wire: a number of so many bits, unsigned or signed; one of some bytes; a string; a value; the rest of the frame
+-- what stands on the wire: a number of that many bits, unsigned or signed; one of some bytes; a string; a value; the rest of the frame
 pub data Wire : Type 0 where
   u i : ℕ → Wire
   byteOf : List ℕ → Wire

@@ -98,7 +98,7 @@ fn error_field_at(rules: Rules, frame: &[u8], start: usize, number: usize) -> El
     }
 }
 
-// The item of that number, of a list of that sort that has so many.
+// The item of that number of a list of that sort, whose count is above it.
 fn item_at(rules: Rules, frame: &[u8], sort: Sort, start: usize, number: usize) -> Element
     requires { ⌜ FitsAt (now frame) start number sort ⌝ }
     ensures { λ r. ⌜ r ≡ elementBy (itemOf sort .element) (readItemAt rules (itemOf sort) number (now (frame .entry)) start) ⌝ }

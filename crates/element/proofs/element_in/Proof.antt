@@ -1,4 +1,4 @@
--- `element::element_in` meets its contract: 11, unless there is the list and it has so many.
+-- `element::element_in` meets its contract: 11, unless there is the list and the number is below its count.
 use mathlib.Core.Path.{refl, _∙_}
 use borrow.Author.Needs.{needs}
 use borrow.Author.Tests.{lt-ltb, le-ltb}
