@@ -1,7 +1,6 @@
 -- A contract leaves one answer: what it says at two answers, and at two final buffers, makes them equal. This is said of each form that a contract
 -- has, for whatever stands in it; docs/CONTRACTS.md, "One answer", tells which functions have which form.
--- The exceptions: of a returned part (`decode::part`, `element::value_or`) a contract sees the contents alone; and `name_of` says which letters a name
--- has, not where in its text they stand.
+-- The exception: of a returned part (`decode::part`, `element::value_or`) a contract sees the contents alone.
 use Prim.Native.Nat.{ℕ}
 use mathlib.Core.Bool.{Bool}
 use mathlib.Core.List.{List}
