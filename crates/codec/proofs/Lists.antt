@@ -11,7 +11,7 @@ use Rattle.protocol.specs.declared.Rules.{Rules}
 use Rattle.protocol.specs.Bytes.{numberAt, signedOf}
 use Rattle.protocol.specs.Each.{leastOfEach}
 use Rattle.protocol.specs.Fields.{Item, itemLeast, most, signedCount, counted}
-use Rattle.protocol.specs.Kinds.{oid, format}
+use Rattle.protocol.specs.Kinds.{oid, format, oids, formats}
 use Rattle.protocol.specs.Reading.{Read, got, bad, andThen, read, readNumber, passItems, countAt, readCount, readCounted}
 use Rattle.protocol.specs.Refusals.{badCount, cut}
 use Rattle.protocol.proofs.Counts.{Counted, counted-is, Steady, pass-steady}
@@ -60,10 +60,10 @@ oid-steady rules f p h = ((numberAt 4 f p, tt), rw (← number-got f p 4 (number
 pub format-steady : (rules : Rules) (f : List ℕ) → Steady rules format 2 f
 format-steady rules f p h = ((signedOf 2 (numberAt 2 f p), tt), rw (← number-got f p 2 (numberAt 2 f p) h refl) refl)
 
-pub oid-list : (rules : Rules) (f : List ℕ) (p : ℕ) → readFixed 4 f p ≡ read rules (counted signedCount oid) f p
+pub oid-list : (rules : Rules) (f : List ℕ) (p : ℕ) → readFixed 4 f p ≡ read rules oids f p
 unfolding itemLeast leastOfEach
 oid-list rules f p = fixed-list rules oid 4 f p (oid-steady rules f) refl
 
-pub format-list : (rules : Rules) (f : List ℕ) (p : ℕ) → readFixed 2 f p ≡ read rules (counted signedCount format) f p
+pub format-list : (rules : Rules) (f : List ℕ) (p : ℕ) → readFixed 2 f p ≡ read rules formats f p
 unfolding itemLeast leastOfEach
 format-list rules f p = fixed-list rules format 2 f p (format-steady rules f) refl

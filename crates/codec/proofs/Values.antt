@@ -7,7 +7,7 @@ use native.Mathlib.Omega.{arith}
 use borrow.Author.Tests.{le-leb, lt-leb}
 use lib.IntN.{ℤ, pos, negsuc}
 use lib.ListN.{length}
-use Rattle.protocol.specs.Bytes.{signedOf}
+use Rattle.protocol.specs.Bytes.{longest, signedOf}
 use Rattle.protocol.specs.Reading.{Read, got, bad, readNumber, valueAt, readValue}
 use Rattle.protocol.specs.Refusals.{cut, notAllowed}
 use Rattle.protocol.proofs.Numbers.{lower, upper}
@@ -25,14 +25,14 @@ module _ (f : List ℕ) (p n q : ℕ) (e : got n q ≡ readNumber 4 f p) where
   unfolding valueAt
   value-null h = sym (by-sign (negsuc 0) (upper 4 n (omega arith) ∙ ap negsuc (omega arith)))
 
-  pub value-below : 2147483647 < n → n < 4294967295 → bad notAllowed p ≡ readValue f p
+  pub value-below : longest < n → n < 4294967295 → bad notAllowed p ≡ readValue f p
   unfolding valueAt
   value-below l h = sym (by-sign (negsuc (suc (4294967294 - n))) (upper 4 n (omega arith) ∙ ap negsuc (omega arith)))
 
-  pub value-cut : n ≤ 2147483647 → length f < q + n → bad cut p ≡ readValue f p
+  pub value-cut : n ≤ longest → length f < q + n → bad cut p ≡ readValue f p
   unfolding valueAt
   value-cut l h = sym (by-sign (pos n) (lower 4 n (omega arith)) ∙ rw (lt-leb (q + n) (length f) h) refl)
 
-  pub value-got : n ≤ 2147483647 → q + n ≤ length f → got (some (record { start = q; len = n })) (q + n) ≡ readValue f p
+  pub value-got : n ≤ longest → q + n ≤ length f → got (some (record { start = q; len = n })) (q + n) ≡ readValue f p
   unfolding valueAt
   value-got l h = sym (by-sign (pos n) (lower 4 n (omega arith)) ∙ rw (le-leb (q + n) (length f) h) refl)

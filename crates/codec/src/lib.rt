@@ -4,12 +4,13 @@
 ghost use Prim.Native.Nat.{_+_, _*_, _/_, _%_, _≤_, _<_};
 ghost use mathlib.Core.Path.{_≡_};
 ghost use lib.ListN.{getD, length};
-ghost use Rattle.protocol.specs.Bytes.{signedOf};
+ghost use Rattle.protocol.specs.Bytes.{numberAt, signedOf};
 ghost use Rattle.protocol.specs.Fields.{signedCount, text};
 ghost use Rattle.protocol.specs.Kinds.{formats, nullable, oids, values};
 ghost use Rattle.protocol.specs.Reading.{got, passItems, read, readAtom, readCount, readNumber, readRest, readValue};
 ghost use Rattle.codec.specs.Answers.{byteRead, halfRead, listedRead, passedRead, textRead, valueRead, wordRead};
 ghost use Rattle.codec.specs.Fixed.{readFixed};
+ghost use Rattle.codec.specs.Words.{WordsEnd};
 use protocol::List;
 use protocol::Rules;
 use protocol::Span;
@@ -124,6 +125,27 @@ fn turned(x: u32) -> u32
     x % 256 * 16777216 + x / 256 % 256 * 65536 + x / 65536 % 256 * 256 + x / 16777216
 }
 
+// The word at a place.
+fn word_at(s: &[u8], at: usize) -> u32
+    requires { ⌜ at + 4 ≤ length (now s) ⌝ }
+    ensures { λ r. ⌜ r ≡ numberAt 4 (now (s .entry)) at ⌝ }
+{
+    turned(four(s, at))
+}
+
+// Where the places end at which a length word fits; 0 where there is none, or the frame is too long for the test below.
+fn words_end(frame: &[u8]) -> usize
+    ensures { λ r. ⌜ WordsEnd (now (frame .entry)) r ⌝ }
+{
+    if frame.len() < 4 {
+        return 0;
+    }
+    if (LONGEST as usize) < frame.len() {
+        return 0;
+    }
+    frame.len() - 3
+}
+
 impl Cursor {
     pub fn byte(self, frame: &[u8]) -> Byte
         ensures { λ r. ⌜ byteRead (self .at) r ≡ readNumber 1 (now (frame .entry)) (self .at) ⌝ }
@@ -161,7 +183,7 @@ impl Cursor {
         if frame.len() - at < 4 {
             return Word::Cut;
         }
-        Word::Is(turned(four(frame, at)), Cursor { at: at + 4 })
+        Word::Is(word_at(frame, at), Cursor { at: at + 4 })
     }
 
     // A string, up to its zero byte. The rules say how texts are read.
@@ -269,10 +291,18 @@ impl Cursor {
         self.fixed(frame, 2)
     }
 
-    fn pass_value(self, rules: Rules, frame: &[u8]) -> Passed
+    // Past a value. Most are there and whole, which one comparison tells: a negative length is never below `ends`.
+    fn pass_value(self, rules: Rules, frame: &[u8], ends: usize) -> Passed
+        requires { ⌜ WordsEnd (now frame) ends ⌝ }
         ensures { λ r. ⌜ passedRead r ≡ passItems rules nullable 1 (now (frame .entry)) (self .at) ⌝ }
     {
         let at = self.at;
+        if at < ends {
+            let len = word_at(frame, at) as usize;
+            if len < ends - at {
+                return Passed::To(Cursor { at: at + 4 + len });
+            }
+        }
         match self.value(frame) {
             Value::Is(_, c) => Passed::To(c),
             Value::Null(c) => Passed::To(c),
@@ -285,11 +315,12 @@ impl Cursor {
     pub fn pass_values(self, rules: Rules, frame: &[u8], count: usize) -> Passed
         ensures { λ r. ⌜ passedRead r ≡ passItems rules nullable count (now (frame .entry)) (self .at) ⌝ }
     {
+        let ends = words_end(frame);
         let mut at = self.at;
         let mut left = count;
         while 0 < left {
             let c = Cursor { at };
-            let passed = c.pass_value(rules, frame);
+            let passed = c.pass_value(rules, frame, ends);
             let Passed::To(next) = passed else {
                 return passed;
             };

@@ -39,22 +39,22 @@ module _ (rules : Rules) (s : List ℕ) where
   module _ (m : Mode) where
     -- the tag has not arrived
     pub cut : length s < tagEnd (m .envelope) → D.NeedMore ≡ decodeIn rules m s
-    unfolding decodeIn
+    unfolding decodeIn headerBy
     cut h = cut-by (m .envelope) _ h
 
     -- the tag tells the kind that the table has for it
     pub arm : {t n : ℕ} → t ≡ tagAt (m .envelope) s → t ≡ n → decodeBy rules s (headerIn (m .envelope) (kindIn m n) s) ≡ decodeIn rules m s
-    unfolding decodeIn
+    unfolding decodeIn headerBy
     arm tag is = rw (← tag, is) refl
 
     -- or none
     pub unknown : {t : ℕ} → t ≡ tagAt (m .envelope) s → tagEnd (m .envelope) ≤ length s → Apart t (keysOnto tagOf (m .kinds) []) → D.Refused typeUnknown (tagPlace (m .envelope)) ≡ decodeIn rules m s
-    unfolding decodeIn
+    unfolding decodeIn headerBy
     unknown {t} tag h apart = rw (← tag, kind-apart m t apart) (unknown-by (m .envelope) h)
 
     -- the mode that the rules name
     pub in-mode : modeOf rules ≡ some m → decodeIn rules m s ≡ decodeOf rules s
-    unfolding decodeIn decodeOf headerOf headerBy
+    unfolding decodeIn decodeOf headerOf
     in-mode e = rw e refl
 
   -- a frame of one byte has no body

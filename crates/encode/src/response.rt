@@ -7,7 +7,6 @@ ghost use lib.IntN.{ℤ};
 ghost use lib.ListN.{length};
 ghost use Rattle.protocol.specs.Bytes.{bitsOf};
 ghost use Rattle.protocol.specs.Encode.{Encodes, errorFieldsGiven, gssKind, sslKind};
-ghost use Rattle.protocol.specs.Fields.{ended};
 ghost use Rattle.protocol.specs.Kinds as K;
 ghost use Rattle.writers.specs.Given.{isSome};
 ghost use Rattle.writers.specs.Writing.{WroteFrame};
@@ -73,7 +72,7 @@ pub fn ready_for_query(status: u8, out: &mut [u8]) -> Encoded
 // The code of each and its string; then the zero byte that ends them.
 fn put_errors(out: &mut [u8], at: usize, codes: &[u8], lengths: &[u32], joined: &[u8]) -> usize
     requires { ⌜ (at + 2 * length (now codes) + length (now joined) + 1 ≤ length (now out)) × (isSome (errorFieldsGiven (now codes) (now lengths) (now joined)) ≡ true) ⌝ }
-    ensures { λ r. ⌜ WroteGiven (ended K.errorField) (errorFieldsGiven (now (codes .entry)) (now (lengths .entry)) (now (joined .entry))) (now (out .entry)) at (2 * length (now (codes .entry)) + length (now (joined .entry)) + 1) (now (out .exit)) r ⌝ }
+    ensures { λ r. ⌜ WroteGiven K.errorFields (errorFieldsGiven (now (codes .entry)) (now (lengths .entry)) (now (joined .entry))) (now (out .entry)) at (2 * length (now (codes .entry)) + length (now (joined .entry)) + 1) (now (out .exit)) r ⌝ }
 {
     let mut p = at;
     let mut i = 0;

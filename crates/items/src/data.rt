@@ -1,6 +1,5 @@
 // The fields of a row's description, as in data.rs.
 ghost use mathlib.Core.Path.{_≡_};
-ghost use Rattle.protocol.specs.Fields.{counted, signedCount};
 ghost use Rattle.protocol.specs.Kinds as K;
 ghost use Rattle.protocol.specs.Reading.{andThen, got, passItems, read, readItem};
 ghost use Rattle.codec.specs.Answers.{listedRead, passedRead};
@@ -87,7 +86,7 @@ pub fn pass_fields(rules: Rules, frame: &[u8], c: Cursor, count: usize) -> Passe
 
 // Every field is checked. The smallest has an empty name: 19 bytes.
 pub fn fields(rules: Rules, frame: &[u8], c: Cursor) -> Listed
-    ensures { λ r. ⌜ listedRead r ≡ read rules (counted signedCount K.rowField) (now (frame .entry)) (c .at) ⌝ }
+    ensures { λ r. ⌜ listedRead r ≡ read rules K.rowFields (now (frame .entry)) (c .at) ⌝ }
 {
     let counted = c.count(frame, 19);
     let Listed::Is(list, c) = counted else {

@@ -1,6 +1,5 @@
 // The fields of an error or a notice, as in response.rs.
 ghost use mathlib.Core.Path.{_≡_};
-ghost use Rattle.protocol.specs.Fields.{ended};
 ghost use Rattle.protocol.specs.Kinds as K;
 ghost use Rattle.protocol.specs.Reading.{passItems, read, readItem};
 ghost use Rattle.codec.specs.Answers.{listedRead, passedRead};
@@ -24,7 +23,7 @@ enum Outcome {
 
 // An error's fields: a code that is not zero and a string each, until a zero byte. The walk is left at once at the first that is cut.
 pub fn error_fields(rules: Rules, frame: &[u8], c: Cursor) -> Listed
-    ensures { λ r. ⌜ listedRead r ≡ read rules (ended K.errorField) (now (frame .entry)) (c .at) ⌝ }
+    ensures { λ r. ⌜ listedRead r ≡ read rules K.errorFields (now (frame .entry)) (c .at) ⌝ }
 {
     let start = c.at;
     let mut at = start;

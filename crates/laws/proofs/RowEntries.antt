@@ -20,7 +20,7 @@ use Rattle.protocol.specs.declared.Rules.{Rules}
 use Rattle.protocol.specs.declared.data.DataRow.{DataRow}
 use Rattle.protocol.specs.declared.Span.{Span}
 use Rattle.protocol.specs.Answers.{success, ofElement}
-use Rattle.protocol.specs.Bytes.{signedOf}
+use Rattle.protocol.specs.Bytes.{longest, signedOf}
 use Rattle.protocol.specs.Decode.{Header, more, refuse, framed, headerOf, closed, decodedBy, decodeBy, decodeOf}
 use Rattle.protocol.specs.Elements.{listIn, listOf, readItemAt, elementBy, elementAt}
 use Rattle.protocol.specs.Fields.{AtomSlot, itemLeast, signedCount, Slot}
@@ -78,31 +78,31 @@ nth-later xs ys i h =
 
 -- ---- values that were passed
 
-signed-below : (n m : ℕ) (t : Bool) → ltb n (256 ^ 4 / 2) ≡ t → cond t (pos n) (negsuc (256 ^ 4 - suc n)) ≡ pos m → m < 2147483648
+signed-below : (n m : ℕ) (t : Bool) → ltb n (256 ^ 4 / 2) ≡ t → cond t (pos n) (negsuc (256 ^ 4 - suc n)) ≡ pos m → m < suc longest
 signed-below n m true h e = let q : n ≡ m = cc in rw (← q) (ltb-true _ _ h)
 signed-below n m false h e = absurd (zero-one cc)
 
 -- a value's length is below the largest signed word
-value-below : (z : ℤ) (f : List ℕ) (p q : ℕ) (v : Span) (e : ℕ) → ((n : ℕ) → z ≡ pos n → n < 2147483648) → valueAt z f p q ≡ got (some v) e → v .len < 2147483648
+value-below : (z : ℤ) (f : List ℕ) (p q : ℕ) (v : Span) (e : ℕ) → ((n : ℕ) → z ≡ pos n → n < suc longest) → valueAt z f p q ≡ got (some v) e → v .len < suc longest
 unfolding valueAt
 value-below (pos n) f p q v e h g = by (leb (q + n) (length f)) g
   where
-    by : (t : Bool) → cond t (got (some (record { start = q; len = n })) (q + n)) (bad 6 p) ≡ got (some v) e → v .len < 2147483648
+    by : (t : Bool) → cond t (got (some (record { start = q; len = n })) (q + n)) (bad 6 p) ≡ got (some v) e → v .len < suc longest
     by true g = let is : n ≡ v .len = cc in rw (← is) (h n refl)
     by false g = absurd (zero-one cc)
 value-below (negsuc zero) f p q v e h g = absurd (zero-one cc)
 value-below (negsuc (suc n)) f p q v e h g = absurd (zero-one cc)
 
-length-below : (f : List ℕ) (p : ℕ) (v : Span) (e : ℕ) → readValue f p ≡ got (some v) e → v .len < 2147483648
+length-below : (f : List ℕ) (p : ℕ) (v : Span) (e : ℕ) → readValue f p ≡ got (some v) e → v .len < suc longest
 unfolding readValue signedOf
 length-below f p v e g = by (readNumber 4 f p) g
   where
-    by : (r : Read ℕ) → andThen (andThen r (λ n q. got (signedOf 4 n) q)) (λ z q. valueAt z f p q) ≡ got (some v) e → v .len < 2147483648
+    by : (r : Read ℕ) → andThen (andThen r (λ n q. got (signedOf 4 n) q)) (λ z q. valueAt z f p q) ≡ got (some v) e → v .len < suc longest
     by (got n q) g = value-below (signedOf 4 n) f p q v e (λ m is. signed-below n m (ltb n (256 ^ 4 / 2)) refl is) g
     by (bad number place) g = absurd (zero-one cc)
 
 -- the element of a value is what its entry tells
-told : (v : Option Span) → ((s : Span) → v ≡ some s → s .len < 2147483648) → valueElement v ≡ elementAs (startOf v) (lengthOf v)
+told : (v : Option Span) → ((s : Span) → v ≡ some s → s .len < suc longest) → valueElement v ≡ elementAs (startOf v) (lengthOf v)
 unfolding valueElement
 told none h = refl
 told (some s) h =
@@ -116,7 +116,7 @@ module _ (rules : Rules) (f : List ℕ) where
     next : ℕ
     item : readItemAt rules nullable i f p ≡ got (value, tt) next
     place : nth (placesFrom n f p) i ≡ some (record { start = startOf value; length = lengthOf value })
-    below : (s : Span) → value ≡ some s → s .len < 2147483648
+    below : (s : Span) → value ≡ some s → s .len < suc longest
 
   passed-by : (n p q : ℕ) → ((next j : ℕ) → passItems rules nullable n f next ≡ got tt q → j < n → Passed n next j) → (i : ℕ) → i < suc n → (r : Read (Option Span)) → readValue f p ≡ r
       → andThen (andThen {Y = Each AtomSlot (nullable .atoms)} r (λ s q. got (s, tt) q)) (λ s q. passItems rules nullable n f q) ≡ got tt q → Passed (suc n) p i

@@ -18,7 +18,7 @@ use Rattle.protocol.specs.Each.{Each}
 use Rattle.protocol.specs.Fields.{Slot}
 use Rattle.protocol.specs.Kinds.{Kind, Mode, modes, find, modeOf, kindIn, the-table, frontend, backend, cancel, tlsAnswer, gssAnswer}
 use Rattle.protocol.specs.Rules.{rulesOf}
-use Rattle.protocol.specs.Views.{View, view, rows, numbered}
+use Rattle.protocol.specs.Views.{shown, view, rows, numbered}
 use Rattle.protocol.proofs.Find.{All, told-row}
 use Rattle.protocol.proofs.Message as Msg
 
@@ -30,56 +30,15 @@ pub viewed : All (λ (m : Mode). All Viewed (m .kinds)) modes
 unfolding the-table view
 viewed = search tt depth 60 fits 5000
 
--- ---- the other way
-
--- a message's row stands in the table, and makes the message of what it is viewed as
-pub record Made (m : Message) : Type 0 where
-  pub mode : Mode
-  pub known : modeOf (rulesOf (mode .mode)) ≡ some mode
-  pub row : kindIn mode (view m .kind .tag) ≡ some (view m .kind)
-  pub back : view m .kind .message (view m .slots) ≡ m
-
-in-mode : {m : Message} (mode : Mode) → modeOf (rulesOf (mode .mode)) ≡ some mode → kindIn mode (view m .kind .tag) ≡ some (view m .kind) → view m .kind .message (view m .slots) ≡ m → Made m
-in-mode mode known row back = record { mode = mode; known = known; row = row; back = back }
-
-pub made : (m : Message) → Made m
-unfolding the-table find modeOf kindIn view
-made (M.Parse m) = in-mode frontend refl refl refl
-made (M.Bind m) = in-mode frontend refl refl refl
-made (M.Close m) = in-mode frontend refl refl refl
-made (M.Describe m) = in-mode frontend refl refl refl
-made (M.Execute m) = in-mode frontend refl refl refl
-made M.Flush = in-mode frontend refl refl refl
-made M.Sync = in-mode frontend refl refl refl
-made M.CopyDone = in-mode frontend refl refl refl
-made (M.CopyData m) = in-mode frontend refl refl refl
-made (M.CopyFail m) = in-mode frontend refl refl refl
-made M.ParseComplete = in-mode backend refl refl refl
-made M.BindComplete = in-mode backend refl refl refl
-made M.CloseComplete = in-mode backend refl refl refl
-made M.PortalSuspended = in-mode backend refl refl refl
-made M.NoData = in-mode backend refl refl refl
-made M.EmptyQueryResponse = in-mode backend refl refl refl
-made (M.RowDescription m) = in-mode backend refl refl refl
-made (M.ParameterDescription m) = in-mode backend refl refl refl
-made (M.DataRow m) = in-mode backend refl refl refl
-made (M.CommandComplete m) = in-mode backend refl refl refl
-made (M.ReadyForQuery m) = in-mode backend refl refl refl
-made (M.ErrorResponse m) = in-mode backend refl refl refl
-made (M.NoticeResponse m) = in-mode backend refl refl refl
-made (M.CopyInResponse m) = in-mode backend refl refl refl
-made (M.CopyOutResponse m) = in-mode backend refl refl refl
-made (M.CopyBothResponse m) = in-mode backend refl refl refl
-made (M.NotificationResponse m) = in-mode backend refl refl refl
-made (M.CancelRequest m) = in-mode cancel refl refl refl
-made (M.SslResponse Ssl.Accept) = in-mode tlsAnswer refl refl refl
-made (M.SslResponse Ssl.Refuse) = in-mode tlsAnswer refl refl refl
-made (M.GssEncResponse Gss.Accept) = in-mode gssAnswer refl refl refl
-made (M.GssEncResponse Gss.Refuse) = in-mode gssAnswer refl refl refl
+-- a message is made by its row
+pub made : (m : Message) → view m .kind .message (view m .slots) ≡ m
+unfolding view
+made m = shown m .back
 
 -- what holds of each row holds of a message's
 pub each-row : (P : Kind → Type 0) → All (λ (m : Mode). All P (m .kinds)) modes → (m : Message) → P (view m .kind)
-each-row P h m = let r = made m in told-row P h (rulesOf (r .mode .mode)) (view m .kind .tag) (r .known) (r .row)
+unfolding view
+each-row P h m = let r = shown m in told-row P h (rulesOf (r .mode .mode)) (r .view .kind .tag) (r .known) (r .row)
 
 -- ---- the last arm of a `match` on a message, which is told the places of the variants that are left
 
@@ -111,4 +70,4 @@ Placed test k = (s : Each Slot (k .body)) → T (not (hasKey (places test) (tagO
 pub passes : (test : Kind → Bool) → All (λ (m : Mode). All (Placed test) (m .kinds)) modes → (m : Message) → OneOf (places test) (tagOf Msg.the-type m) → T (test (view m .kind))
 passes test h m is =
     let placed = each-row (Placed test) h m (view m .slots) in
-    if-key (places test) (tagOf Msg.the-type m) (test (view m .kind)) is (rw (made m .back) at placed)
+    if-key (places test) (tagOf Msg.the-type m) (test (view m .kind)) is (rw (made m) at placed)

@@ -6,6 +6,10 @@ use lib.Dec.{ltb, eqb}
 use lib.IntN.{ℤ, pos, negsuc}
 use lib.ListN.{length, take, drop}
 
+-- the largest signed number of four bytes
+abbrev pub longest : ℕ
+longest = 2147483647
+
 -- each is a byte
 unfoldable pub Bytes : List ℕ → Type 0
 Bytes [] = Unit {0}

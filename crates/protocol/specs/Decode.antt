@@ -103,7 +103,7 @@ decodeAs rules e k s = decodeBy rules s (headerIn e (some k) s)
 
 -- a buffer in the mode m: its tag tells the kind, if any
 unfoldable pub decodeIn : Rules → Mode → List ℕ → Decoded
-decodeIn rules m s = decodeBy rules s (headerIn (m .envelope) (kindIn m (tagAt (m .envelope) s)) s)
+decodeIn rules m s = decodeBy rules s (headerBy (some m) s)
 
 unfoldable pub decodeOf : Rules → List ℕ → Decoded
 decodeOf rules s = decodeBy rules s (headerOf rules s)

@@ -3,7 +3,8 @@
 use Prim.Native.Nat.{ℕ}
 use mathlib.Core.Bool.{Bool}
 use mathlib.Core.List.{List, [], _∷_, _++_}
-use mathlib.Core.Option.{Option}
+use mathlib.Core.Option.{Option, some}
+use mathlib.Core.Path.{_≡_, refl}
 use lib.Dec.{eqb}
 use lib.ListN.{getD}
 use Rattle.protocol.specs.declared.Message.the-variants as M
@@ -12,49 +13,62 @@ use Rattle.protocol.specs.declared.response.GssEncResponse.the-variants 
 use Rattle.protocol.specs.declared.response.SslResponse.the-variants as Ssl
 use Rattle.protocol.specs.Each.{Each}
 use Rattle.protocol.specs.Fields.{Slot}
-use Rattle.protocol.specs.Kinds.{Kind, Mode, modes, find, the-table, parse, bind, close, describe, execute, flush, sync, copyDone, copyData, copyFail, parseComplete, bindComplete, closeComplete, portalSuspended, noData, emptyQueryResponse, rowDescription, parameterDescription, dataRow, commandComplete, readyForQuery, errorResponse, noticeResponse, copyInResponse, copyOutResponse, copyBothResponse, notificationResponse, cancelRequest, sslAccept, sslRefuse, gssAccept, gssRefuse}
+use Rattle.protocol.specs.Kinds.{Kind, Mode, modes, find, modeOf, kindIn, the-table, frontend, backend, cancel, tlsAnswer, gssAnswer, parse, bind, close, describe, execute, flush, sync, copyDone, copyData, copyFail, parseComplete, bindComplete, closeComplete, portalSuspended, noData, emptyQueryResponse, rowDescription, parameterDescription, dataRow, commandComplete, readyForQuery, errorResponse, noticeResponse, copyInResponse, copyOutResponse, copyBothResponse, notificationResponse, cancelRequest, sslAccept, sslRefuse, gssAccept, gssRefuse}
+use Rattle.protocol.specs.Rules.{rulesOf}
 
 pub record View : Type 0 where
   pub kind : Kind
   pub slots : Each Slot (kind .body)
 
-abbrev is : (k : Kind) → Each Slot (k .body) → View
-is k slots = record { kind = k; slots = slots }
+-- a view of the message m with its law: the row stands in the table of a mode, and of these slots it makes m
+pub record Shown (m : Message) : Type 0 where
+  pub mode : Mode
+  pub view : View
+  pub known : modeOf (rulesOf (mode .mode)) ≡ some mode
+  pub row : kindIn mode (view .kind .tag) ≡ some (view .kind)
+  pub back : view .kind .message (view .slots) ≡ m
+
+abbrev is : {m : Message} (mode : Mode) (k : Kind) (slots : Each Slot (k .body)) → modeOf (rulesOf (mode .mode)) ≡ some mode → kindIn mode (k .tag) ≡ some k → k .message slots ≡ m → Shown m
+is mode k slots known row back = record { mode = mode; view = record { kind = k; slots = slots }; known = known; row = row; back = back }
+
+unfoldable pub shown : (m : Message) → Shown m
+unfolding the-table find modeOf kindIn
+shown (M.Parse m) = is frontend parse (m .name, (m .query, (m .«type_oids», tt))) refl refl refl
+shown (M.Bind m) = is frontend bind (m .«portal_name», (m .«statement_name», (m .«parameter_format_codes», (m .parameters, (m .«result_column_format_codes», tt))))) refl refl refl
+shown (M.Close m) = is frontend close (m .«target_type», (m .name, tt)) refl refl refl
+shown (M.Describe m) = is frontend describe (m .«target_type», (m .name, tt)) refl refl refl
+shown (M.Execute m) = is frontend execute (m .name, (m .«max_rows», tt)) refl refl refl
+shown M.Flush = is frontend flush tt refl refl refl
+shown M.Sync = is frontend sync tt refl refl refl
+shown M.CopyDone = is frontend copyDone tt refl refl refl
+shown (M.CopyData m) = is frontend copyData (m .«data», tt) refl refl refl
+shown (M.CopyFail m) = is frontend copyFail (m .message, tt) refl refl refl
+shown M.ParseComplete = is backend parseComplete tt refl refl refl
+shown M.BindComplete = is backend bindComplete tt refl refl refl
+shown M.CloseComplete = is backend closeComplete tt refl refl refl
+shown M.PortalSuspended = is backend portalSuspended tt refl refl refl
+shown M.NoData = is backend noData tt refl refl refl
+shown M.EmptyQueryResponse = is backend emptyQueryResponse tt refl refl refl
+shown (M.RowDescription m) = is backend rowDescription (m .fields, tt) refl refl refl
+shown (M.ParameterDescription m) = is backend parameterDescription (m .types, tt) refl refl refl
+shown (M.DataRow m) = is backend dataRow (m .«data», tt) refl refl refl
+shown (M.CommandComplete m) = is backend commandComplete (m .tag, tt) refl refl refl
+shown (M.ReadyForQuery m) = is backend readyForQuery (m .status, tt) refl refl refl
+shown (M.ErrorResponse m) = is backend errorResponse (m .fields, tt) refl refl refl
+shown (M.NoticeResponse m) = is backend noticeResponse (m .fields, tt) refl refl refl
+shown (M.CopyInResponse m) = is backend copyInResponse (m .format, (m .«column_formats», tt)) refl refl refl
+shown (M.CopyOutResponse m) = is backend copyOutResponse (m .format, (m .«column_formats», tt)) refl refl refl
+shown (M.CopyBothResponse m) = is backend copyBothResponse (m .format, (m .«column_formats», tt)) refl refl refl
+shown (M.NotificationResponse m) = is backend notificationResponse (m .pid, (m .channel, (m .payload, tt))) refl refl refl
+shown (M.CancelRequest m) = is cancel cancelRequest (m .pid, (m .«secret_key», tt)) refl refl refl
+shown (M.SslResponse Ssl.Accept) = is tlsAnswer sslAccept tt refl refl refl
+shown (M.SslResponse Ssl.Refuse) = is tlsAnswer sslRefuse tt refl refl refl
+shown (M.GssEncResponse Gss.Accept) = is gssAnswer gssAccept tt refl refl refl
+shown (M.GssEncResponse Gss.Refuse) = is gssAnswer gssRefuse tt refl refl refl
 
 unfoldable pub view : Message → View
-unfolding the-table
-view (M.Parse m) = is parse (m .name, (m .query, (m .«type_oids», tt)))
-view (M.Bind m) = is bind (m .«portal_name», (m .«statement_name», (m .«parameter_format_codes», (m .parameters, (m .«result_column_format_codes», tt)))))
-view (M.Close m) = is close (m .«target_type», (m .name, tt))
-view (M.Describe m) = is describe (m .«target_type», (m .name, tt))
-view (M.Execute m) = is execute (m .name, (m .«max_rows», tt))
-view M.Flush = is flush tt
-view M.Sync = is sync tt
-view M.CopyDone = is copyDone tt
-view (M.CopyData m) = is copyData (m .«data», tt)
-view (M.CopyFail m) = is copyFail (m .message, tt)
-view M.ParseComplete = is parseComplete tt
-view M.BindComplete = is bindComplete tt
-view M.CloseComplete = is closeComplete tt
-view M.PortalSuspended = is portalSuspended tt
-view M.NoData = is noData tt
-view M.EmptyQueryResponse = is emptyQueryResponse tt
-view (M.RowDescription m) = is rowDescription (m .fields, tt)
-view (M.ParameterDescription m) = is parameterDescription (m .types, tt)
-view (M.DataRow m) = is dataRow (m .«data», tt)
-view (M.CommandComplete m) = is commandComplete (m .tag, tt)
-view (M.ReadyForQuery m) = is readyForQuery (m .status, tt)
-view (M.ErrorResponse m) = is errorResponse (m .fields, tt)
-view (M.NoticeResponse m) = is noticeResponse (m .fields, tt)
-view (M.CopyInResponse m) = is copyInResponse (m .format, (m .«column_formats», tt))
-view (M.CopyOutResponse m) = is copyOutResponse (m .format, (m .«column_formats», tt))
-view (M.CopyBothResponse m) = is copyBothResponse (m .format, (m .«column_formats», tt))
-view (M.NotificationResponse m) = is notificationResponse (m .pid, (m .channel, (m .payload, tt)))
-view (M.CancelRequest m) = is cancelRequest (m .pid, (m .«secret_key», tt))
-view (M.SslResponse Ssl.Accept) = is sslAccept tt
-view (M.SslResponse Ssl.Refuse) = is sslRefuse tt
-view (M.GssEncResponse Gss.Accept) = is gssAccept tt
-view (M.GssEncResponse Gss.Refuse) = is gssRefuse tt
+unfolding shown
+view m = shown m .view
 
 -- ---- kinds by their numbers at the boundary
 

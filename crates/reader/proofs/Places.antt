@@ -13,11 +13,12 @@ use lib.ListN.{length, set, length-map}
 use lib.Signed.{mag}
 use lib.Seq.{sets, sets-eq}
 use Rattle.protocol.specs.declared.Span.{Span}
+use Rattle.protocol.specs.Bytes.{longest}
 use Rattle.protocol.specs.Reading.{Read, got, bad, readValue}
 use Rattle.protocol.proofs.Basics.{zero-one}
 use Rattle.reader.specs.declared.row.Entry.the-variants as E
 use Rattle.reader.specs.declared.row.Entry.{Entry}
-use Rattle.reader.specs.Row.{Place, longest, lengthWord, entryOf, placesBy, placesFrom, over}
+use Rattle.reader.specs.Row.{Place, lengthWord, entryOf, placesBy, placesFrom, over}
 
 is-stop : {start next : ℕ} {len : ℤ} → E.Is start len next ≡ E.Stop → ⊥
 is-stop e = zero-one cc

@@ -83,7 +83,7 @@ pub data-row : (m : Message) (l : ListSlot) → rowIn m ≡ some l → (row : Da
 unfolding rowIn isKind
 data-row m l e =
     let w = row-made (view m .kind) (view m .slots) (told-by (isKind dataRow m) _ l e (each-row RowKind row-kinds m)) in
-    let is : m ≡ M.DataRow (w .0) = sym (made m .back) ∙ w .1 in
+    let is : m ≡ M.DataRow (w .0) = sym (made m) ∙ w .1 in
     let list : some (w .0 .«data») ≡ some l = sym (row-in (w .0)) ∙ ap rowIn (sym is) ∙ e in
     (w .0, is, cc)
 

@@ -13,6 +13,7 @@ use Rattle.protocol.specs.declared.List.{List as ListSlot}
 use Rattle.protocol.specs.declared.Message.{Message}
 use Rattle.protocol.specs.declared.Span.{Span}
 use Rattle.protocol.specs.Answers.{Answer, success, needsMore, refusal}
+use Rattle.protocol.specs.Bytes.{longest}
 use Rattle.protocol.specs.Decode.{decodeOf}
 use Rattle.protocol.specs.Elements.{Listed, listOf}
 use Rattle.protocol.specs.Kinds.{dataRow}
@@ -26,10 +27,6 @@ use Rattle.reader.specs.declared.row.Row.the-variants as R
 use Rattle.reader.specs.declared.row.Row.{Row}
 
 -- ---- entries
-
--- the largest signed word
-abbrev pub longest : ℕ
-longest = 2147483647
 
 -- a length as a signed word; a frame's limit keeps a value's far below the largest
 abbrev pub lengthWord : ℕ → ℤ

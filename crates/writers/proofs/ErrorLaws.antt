@@ -13,8 +13,8 @@ use Rattle.protocol.specs.declared.Rules.{Rules}
 use Rattle.protocol.specs.Bytes.{noZero, be}
 use Rattle.protocol.specs.Each.{ableEach, bytesOfEach}
 use Rattle.protocol.specs.Encode.{errorFieldsGiven}
-use Rattle.protocol.specs.Fields.{ItemContent, ended, able, bytes, atomAble, atomBytes, itemAble, itemBytes, itemsAble, itemsBytes, zeroFirst, noneEnds}
-use Rattle.protocol.specs.Kinds.{errorField}
+use Rattle.protocol.specs.Fields.{ItemContent, able, bytes, atomAble, atomBytes, itemAble, itemBytes, itemsAble, itemsBytes, zeroFirst, noneEnds}
+use Rattle.protocol.specs.Kinds.{errorField, errorFields}
 use Rattle.protocol.proofs.Basics.{none-some, and-left, and-right}
 use Rattle.writers.specs.Given.{isSome}
 use Rattle.writers.proofs.GivenLaws.{first, some-first}
@@ -125,10 +125,10 @@ errors-are (c ∷ cs) (n ∷ ns) bs fs small e =
 -- ---- the field
 
 module _ (cs ns bs : List ℕ) (fs : List (ItemContent errorField)) (small : (i : ℕ) → getD cs i 0 < 256) (e : errorFieldsGiven cs ns bs ≡ some fs) where
-  pub able-errors : (rules : Rules) → able rules (ended errorField) fs ≡ noZero bs && noZero cs
+  pub able-errors : (rules : Rules) → able rules errorFields fs ≡ noZero bs && noZero cs
   unfolding able
   able-errors rules = let v = errors-are cs ns bs fs small e in rw (v .strings rules, v .codes) refl
 
-  pub length-errors : length (bytes (ended errorField) fs) ≡ 2 * length cs + length bs + 1
+  pub length-errors : length (bytes errorFields fs) ≡ 2 * length cs + length bs + 1
   unfolding bytes
   length-errors = let v = errors-are cs ns bs fs small e in rw (v .written) (omega (arith, v .size, length-append (errorsBytes cs ns bs) (0 ∷ [])))

@@ -10,10 +10,10 @@ use Rattle.codec.proofs.Cursor.pass_values.Statement.{statement}
 use Rattle.codec.proofs.Cursor.pass_values.Tie as tie
 
 abbrev Inv-loop : tie.InvT-loop
-Inv-loop rules frame count at₀ left₀ at left = passItems rules nullable left frame at ≡ passItems rules nullable left₀ frame at₀
+Inv-loop rules frame count ends at₀ left₀ at left = passItems rules nullable left frame at ≡ passItems rules nullable left₀ frame at₀
 
 abbrev μ-loop : tie.MeasureT-loop
-μ-loop rules frame count at₀ left₀ at left = left
+μ-loop rules frame count ends at₀ left₀ at left = left
 
 returns : tie.Need-returns Inv-loop μ-loop
 returns c =
@@ -37,8 +37,9 @@ pass-values-spec =
     (tie.spec
     Inv-loop
     μ-loop
-    (λ c. refl)
     (λ c κs. search needs)
+    (λ c. refl)
+    (λ c κs. c .before .before .words-end .ensures)
     (λ c. search needs)
     (λ c. search needs)
     returns

@@ -7,8 +7,8 @@ use native.Mathlib.Omega.{arith}
 use borrow.Author.Needs.{needs}
 use lib.ListN.{length, getD, drop, length-take, length-drop}
 use Rattle.protocol.specs.Encode.{errorFieldsGiven}
-use Rattle.protocol.specs.Fields.{ended, bytes}
-use Rattle.protocol.specs.Kinds.{errorField}
+use Rattle.protocol.specs.Fields.{bytes}
+use Rattle.protocol.specs.Kinds.{errorField, errorFields}
 use Rattle.writers.specs.Given.{isSome}
 use Rattle.writers.specs.Writing.{write, Wrote}
 use Rattle.writers.proofs.Laws.{turn, _then_}
@@ -20,7 +20,7 @@ use Rattle.encode.proofs.response.put_errors.Tie as tie
 -- the fields, and then the zero byte
 errors-field : {d mid out : List ℕ} {p at next : ℕ} (cs ns bs : List ℕ) → ((i : ℕ) → getD cs i 0 < 256)
     → mid ≡ write d p (errorsBytes cs ns bs) → at ≡ p + (2 * length cs + length bs) → Wrote mid at (0 ∷ []) 1 out next
-    → WroteGiven (ended errorField) (errorFieldsGiven cs ns bs) d p (2 * length cs + length bs + 1) out next
+    → WroteGiven errorFields (errorFieldsGiven cs ns bs) d p (2 * length cs + length bs + 1) out next
 unfolding bytes
 errors-field {d} {mid} {out} {p} {at} cs ns bs small e is-at w = record {
   field = λ fs is.

@@ -7,7 +7,8 @@ use borrow.Author.Tests.{lt-ltb, le-ltb}
 use lib.IntN.{pos}
 use mir.Syntax.{w32}
 use mir.ValLaws.{toZ-pos}
-use Rattle.reader.specs.Row.{longest, lengthWord}
+use Rattle.protocol.specs.Bytes.{longest}
+use Rattle.reader.specs.Row.{lengthWord}
 use Rattle.reader.proofs.row.signed_length.Statement.{statement}
 use Rattle.reader.proofs.row.signed_length.Tie as tie
 
