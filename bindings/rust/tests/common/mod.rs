@@ -16,6 +16,11 @@ pub fn is_kind(mode: Mode, type_byte: u8) -> bool {
     KINDS.iter().any(|row| (row.0, row.1) == (mode, type_byte))
 }
 
+/// An encoder's refusal.
+pub fn cannot(number: u8, encoded: Encoded) {
+    assert_eq!(encoded, Err(Refusal { number, place: 0 }));
+}
+
 /// Values as an encoder takes them: lengths, and the joined bytes.
 fn joined(values: Values) -> (Vec<i32>, Vec<u8>) {
     let mut lengths = Vec::new();
@@ -117,7 +122,7 @@ pub fn round_trip<'a>(mode: Mode, frame: &'a [u8]) -> Message<'a> {
     assert!(out[consumed..].iter().all(|byte| *byte == 0xaa));
     for short in [frame.len() - 1, frame.len() / 2, 0] {
         let mut out = vec![0xaa; short];
-        assert_eq!(write(&message, &mut out), Err(Refusal { number: refusal::OUTPUT_TOO_SHORT, place: 0 }));
+        cannot(refusal::OUTPUT_TOO_SHORT, write(&message, &mut out));
         assert!(out.iter().all(|byte| *byte == 0xaa));
     }
     message
