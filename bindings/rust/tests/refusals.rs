@@ -2,7 +2,7 @@
 
 mod common;
 
-use common::{cannot, hex};
+use common::{cannot, hex, is_kind};
 use tusweram::*;
 
 fn refused(mode: Mode, text: &str, number: u8, place: usize) {
@@ -36,9 +36,12 @@ fn refusal_1_mode_unknown() {
 
 #[test]
 fn refusal_2_type_unknown() {
-    refused(Mode::Backend, "53 00 00 00 04", 2, 0);
-    refused(Mode::Backend, "53", 2, 0);
-    refused(Mode::Frontend, "00", 2, 0);
+    for mode in [Mode::Frontend, Mode::Backend] {
+        for byte in (0..=255).filter(|byte| !is_kind(mode, *byte)) {
+            refused(mode, &format!("{byte:02X} 00 00 00 04"), 2, 0);
+            refused(mode, &format!("{byte:02X}"), 2, 0);
+        }
+    }
     refused(Mode::SslResponse, "45", 2, 0);
     refused(Mode::SslResponse, "47", 2, 0);
     refused(Mode::GssEncResponse, "53", 2, 0);
