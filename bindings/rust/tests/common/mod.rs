@@ -98,8 +98,8 @@ pub fn same_row(buf: &[u8], row: &DataRow) {
     assert_eq!((starts[count], lengths[count]), (7, 7));
 }
 
-/// One frame: it decodes, alone and with bytes behind it, each cut of it waits, and written again it is the same, in a buffer that is just long
-/// enough, too short, and longer.
+/// One frame: it decodes, alone and with bytes behind it, and written again it is the same, in a buffer that is just long enough and in a longer
+/// one; in one that is too short nothing is written.
 pub fn round_trip<'a>(mode: Mode, frame: &'a [u8]) -> Message<'a> {
     let Decoded::Record(message, consumed) = decode(mode, frame) else { panic!("{frame:x?} in {mode:?}: {:?}", decode(mode, frame)) };
     assert_eq!(consumed, frame.len());
