@@ -135,7 +135,7 @@ fn unknown(case: &Case) -> Verdict {
         3 | 4 => when(case.waits(), Under("answer-byte"), "an unknown answer byte"),
         _ if case.buf.len() == 1 => when(case.waits(), Under("one-byte"), "one byte of an unknown type"),
         1 if case.buf[0] == b'f' => Under("copy-fail-from-backend"),
-        mode if oracle::left_out(mode, case.buf[0]) => {
+        mode if oracle::left_out(mode).any(|byte| byte == case.buf[0]) => {
             when(!case.refused("InvalidMessageType"), Under("left-out"), "a type that the Rust is said to know")
         }
         _ => when(case.refused("InvalidMessageType"), BothRefuse, "an unknown type"),

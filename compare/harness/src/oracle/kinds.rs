@@ -116,8 +116,8 @@ pub fn limit(number: u8) -> i64 {
     FRONT.iter().chain(BACK).find(|row| row.number == number).expect("a row of the kind").limit
 }
 
-/// Whether a type byte of mode 0 or 1 is one that the Rust knows and that has no row here.
-pub fn left_out(mode: u8, byte: u8) -> bool {
+/// The type bytes that the Rust knows in mode 0 or 1 and that have no row here, in the order of its source.
+pub fn left_out(mode: u8) -> impl Iterator<Item = u8> {
     let (known, rows) = if mode == 0 { (FROM_FRONTEND, FRONT) } else { (FROM_BACKEND, BACK) };
-    known.contains(&byte) && !rows.iter().any(|row| (row.type_byte)() == Some(byte))
+    known.iter().copied().filter(|byte| !rows.iter().any(|row| (row.type_byte)() == Some(*byte)))
 }
