@@ -29,6 +29,8 @@ static int checks, wrong;
 /* The bytes of a literal, without its zero byte. */
 #define BYTES(text) ((const uint8_t *)(text)), (sizeof(text) - 1)
 #define NONE NULL, 0
+/* A number that will be no kind's: theirs are small, one after another. */
+#define NO_KIND 255
 
 /* ---- buffers that end where the memory ends */
 
@@ -379,7 +381,7 @@ static void encoding(void) {
     WRITES(tusweram_encode(30, 1, 0, 0, NONE, NONE, out, out_len), "N");
     size_t others[] = {/* kinds with a list */ TUSWERAM_PARSE, TUSWERAM_BIND, TUSWERAM_ROW_DESCRIPTION, TUSWERAM_PARAMETER_DESCRIPTION,
                        TUSWERAM_DATA_ROW, TUSWERAM_ERROR_RESPONSE, TUSWERAM_NOTICE_RESPONSE, TUSWERAM_COPY_IN_RESPONSE,
-                       TUSWERAM_COPY_OUT_RESPONSE, TUSWERAM_COPY_BOTH_RESPONSE, /* and none */ 0, 31, 256 + TUSWERAM_SYNC, SIZE_MAX};
+                       TUSWERAM_COPY_OUT_RESPONSE, TUSWERAM_COPY_BOTH_RESPONSE, /* and none */ 0, NO_KIND, 256 + TUSWERAM_SYNC, SIZE_MAX};
     for (size_t i = 0; i < sizeof others / sizeof *others; i++)
         REFUSES(2, tusweram_encode(others[i], 'S', 0, 0, NONE, NONE, out, out_len));
     REFUSES(2, tusweram_encode(29, 2, 0, 0, NONE, NONE, out, out_len));
@@ -420,7 +422,7 @@ static void encoding_lists(void) {
     WRITES(lists(26, -128, NONE, NONE, NONE, out, out_len, NONE, NONE, one, 1, NONE), "W\0\0\0\x09\x80\0\x01\0\x01");
     size_t others[] = {/* kinds with no list, or with row fields */ TUSWERAM_CLOSE, TUSWERAM_EMPTY_QUERY_RESPONSE,
                        TUSWERAM_ROW_DESCRIPTION, TUSWERAM_COMMAND_COMPLETE, TUSWERAM_READY_FOR_QUERY, TUSWERAM_NOTIFICATION_RESPONSE,
-                       TUSWERAM_GSS_ENC_RESPONSE, /* and none */ 0, 31, SIZE_MAX};
+                       TUSWERAM_GSS_ENC_RESPONSE, /* and none */ 0, NO_KIND, SIZE_MAX};
     for (size_t i = 0; i < sizeof others / sizeof *others; i++)
         REFUSES(2, lists(others[i], 0, NONE, NONE, NONE, out, out_len, NONE, NONE, NONE, NONE));
     /* lengths that say more or less than is lent */

@@ -20,8 +20,7 @@
 //! ```
 
 use crate::ffi::{self, Lists, Plain};
-use crate::message::{GssEncResponse, SslResponse};
-use crate::numbers::kind;
+use crate::message::{kind, GssEncResponse, SslResponse};
 use crate::Refusal;
 
 /// What an encoder answers: the bytes written, or a refusal, whose place is 0.

@@ -3,7 +3,7 @@
 
 use crate::ffi::Row;
 use crate::lists::{ErrorFields, Fields, Formats, Oids, Values};
-use crate::numbers::{kind, part, word};
+use crate::numbers::{part, word};
 
 /// The target of Close and Describe: a prepared statement.
 pub const TARGET_TYPE_BYTE_STATEMENT: u8 = b'S';
@@ -16,6 +16,40 @@ pub const READY_STATUS_IDLE: u8 = b'I';
 pub const READY_STATUS_TRANSACTION_BLOCK: u8 = b'T';
 /// The status of ReadyForQuery: in a failed transaction.
 pub const READY_STATUS_FAILED_TRANSACTION_BLOCK: u8 = b'E';
+
+// The kinds' numbers at the boundary, as crates/protocol/specs/Kinds.antt has them.
+pub(crate) mod kind {
+    pub const PARSE: usize = 1;
+    pub const BIND: usize = 2;
+    pub const CLOSE: usize = 3;
+    pub const DESCRIBE: usize = 4;
+    pub const EXECUTE: usize = 5;
+    pub const FLUSH: usize = 6;
+    pub const SYNC: usize = 7;
+    pub const COPY_DONE: usize = 8;
+    pub const COPY_DATA: usize = 9;
+    pub const COPY_FAIL: usize = 10;
+    pub const PARSE_COMPLETE: usize = 11;
+    pub const BIND_COMPLETE: usize = 12;
+    pub const CLOSE_COMPLETE: usize = 13;
+    pub const PORTAL_SUSPENDED: usize = 14;
+    pub const NO_DATA: usize = 15;
+    pub const EMPTY_QUERY_RESPONSE: usize = 16;
+    pub const ROW_DESCRIPTION: usize = 17;
+    pub const PARAMETER_DESCRIPTION: usize = 18;
+    pub const DATA_ROW: usize = 19;
+    pub const COMMAND_COMPLETE: usize = 20;
+    pub const READY_FOR_QUERY: usize = 21;
+    pub const ERROR_RESPONSE: usize = 22;
+    pub const NOTICE_RESPONSE: usize = 23;
+    pub const COPY_IN_RESPONSE: usize = 24;
+    pub const COPY_OUT_RESPONSE: usize = 25;
+    pub const COPY_BOTH_RESPONSE: usize = 26;
+    pub const NOTIFICATION_RESPONSE: usize = 27;
+    pub const CANCEL_REQUEST: usize = 28;
+    pub const SSL_RESPONSE: usize = 29;
+    pub const GSS_ENC_RESPONSE: usize = 30;
+}
 
 /// A message that borrows from the buffer it was read from.
 #[derive(Clone, Copy, Debug, PartialEq, Eq)]

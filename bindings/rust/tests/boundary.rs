@@ -108,7 +108,7 @@ fn data_row() {
     assert_eq!(ffi::data_row(ROW, &mut [], &mut []), row(&[2, 9, 0]));
     assert_eq!(ffi::data_row(b"1\0\0\0\x04", &mut starts, &mut lengths), row(&[2, 11, 0]));
     assert_eq!(ffi::data_row(&ROW[..16], &mut starts, &mut lengths), row(&[1]));
-    assert_eq!(ffi::data_row(b"S", &mut starts, &mut lengths), row(&[2, 2, 0]));
+    assert_eq!(ffi::data_row(b"~", &mut starts, &mut lengths), row(&[2, 2, 0]));
     assert_eq!((starts, lengths), ([5; 3], [6; 3]));
     assert_eq!(ffi::data_row(b"D\0\0\0\x06\0\0", &mut [], &mut []), row(&[0, 0, 0, 7, 19, 7, 0]));
 }
@@ -127,8 +127,8 @@ fn encode() {
     assert_eq!(ffi::encode(7, given, &mut out), 5);
     assert_eq!(out[..6], *b"S\0\0\0\x04I");
     let before = out;
-    // no such kind here; no such answer byte; no such target
-    for (kind, number) in [(0, 2), (1, 2), (2, 2), (17, 2), (19, 2), (31, 2), (usize::MAX, 2), (29, 2), (30, 2), (3, 10)] {
+    // no such kind here (255 will be none: kinds have small numbers, one after another); no such answer byte; no such target
+    for (kind, number) in [(0, 2), (1, 2), (2, 2), (17, 2), (19, 2), (255, 2), (usize::MAX, 2), (29, 2), (30, 2), (3, 10)] {
         assert_eq!(ffi::encode(kind, given, &mut out), usize::MAX - number, "kind {kind}");
     }
     assert_eq!(ffi::encode(27, given, &mut out[..14]), usize::MAX - 9);

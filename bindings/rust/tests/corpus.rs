@@ -6,7 +6,7 @@ mod common;
 use std::fs;
 use std::path::{Path, PathBuf};
 
-use common::round_trip;
+use common::{is_kind, round_trip};
 use tusweram::*;
 
 fn folder() -> PathBuf {
@@ -16,11 +16,10 @@ fn folder() -> PathBuf {
     }
 }
 
-/// The kinds that are read here; start-up, authentication and simple query are not.
+/// Whether the frame is of a kind that is read here. Of the client's start-up packets, only a request to cancel is.
 fn in_scope(mode: Mode, frame: &[u8]) -> bool {
     match mode {
-        Mode::Frontend => b"PBCDEHScdf".contains(&frame[0]),
-        Mode::Backend => b"123snIcTtDCZENGHWAd".contains(&frame[0]),
+        Mode::Frontend | Mode::Backend => is_kind(mode, frame[0]),
         Mode::CancelRequest => frame.len() == 16 && frame[4..8] == 80877102u32.to_be_bytes(),
         _ => true,
     }

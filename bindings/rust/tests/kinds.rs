@@ -1,9 +1,15 @@
-//! Every kind: bytes by hand from docs/FORMAT.md, the encoder that writes them, the message that they are, and the numbers at the boundary.
+//! Every kind: bytes by hand from docs/FORMAT.md, the encoder that writes them, the message that they are, the numbers at the boundary, and
+//! what the encoder refuses of each text, list and byte.
 
 mod common;
 
-use common::{cuts_wait, round_trip};
+use common::{cannot, cuts_wait, round_trip};
 use tusweram::*;
+
+/// A length has one of two limits, and a list at most as many elements as its count can say.
+const SMALL: usize = 8192;
+const LARGE: usize = 1048576;
+const COUNT: usize = 32767;
 
 /// `numbers` are those from the fifth on: the kind's number and its fields'.
 fn kind<'a>(mode: Mode, frame: &'a [u8], numbers: &[usize], write: impl Fn(&mut [u8]) -> Encoded) -> Message<'a> {
@@ -19,6 +25,53 @@ fn kind<'a>(mode: Mode, frame: &'a [u8], numbers: &[usize], write: impl Fn(&mut 
     round_trip(mode, frame)
 }
 
+/// Bytes that an encoder takes: what the kind's limit leaves room for is written, and more is refusal 4, also where there is no output.
+fn limited(limit: usize, write: impl Fn(&[u8], &mut [u8]) -> Encoded) {
+    let bytes = vec![b'a'; limit];
+    let mut out = vec![0; 2 * limit];
+    let room = limit + 1 - write(b"", &mut out).unwrap();
+    assert_eq!(write(&bytes[..room], &mut out), Ok(limit + 1));
+    out.fill(0);
+    // a byte too many, and as many as are too long with nothing beside them
+    for n in [room + 1, limit - 3] {
+        cannot(4, write(&bytes[..n], &mut out));
+        cannot(4, write(&bytes[..n], &mut []));
+    }
+    assert!(out.iter().all(|byte| *byte == 0));
+}
+
+/// A text: the same, and refusal 10 where it has a zero byte.
+fn text(limit: usize, write: impl Fn(&[u8], &mut [u8]) -> Encoded) {
+    limited(limit, &write);
+    let mut out = [0; 64];
+    for text in [&b"\0"[..], b"a\0", b"a\0b"] {
+        cannot(10, write(text, &mut out));
+    }
+    assert_eq!(out, [0; 64]);
+}
+
+/// A list of so many elements: `most` are written, more are refusal 4 where the kind's limit does not leave room, and 10 past the count.
+fn list(most: usize, write: impl Fn(usize, &mut [u8]) -> Encoded) {
+    let mut out = vec![0; LARGE];
+    assert!(write(most, &mut out).is_ok());
+    out.fill(0);
+    if most < COUNT {
+        cannot(4, write(most + 1, &mut out));
+    }
+    cannot(10, write(COUNT + 1, &mut out));
+    assert!(out.iter().all(|byte| *byte == 0));
+}
+
+/// A byte that is one of some: any other is refusal 10.
+fn one_of(bytes: &[u8], write: impl Fn(u8, &mut [u8]) -> Encoded) {
+    let mut out = [0; 64];
+    for byte in (0..=255).filter(|byte| !bytes.contains(byte)) {
+        cannot(10, write(byte, &mut out));
+    }
+    assert_eq!(out, [0; 64]);
+    assert!(bytes.iter().all(|byte| write(*byte, &mut out).is_ok()));
+}
+
 #[test]
 fn parse() {
     let frame = b"P\0\0\0\x17n\0select\0\0\x02\0\0\0\x17\xff\xff\xff\xfe";
@@ -28,6 +81,9 @@ fn parse() {
     assert_eq!((m.name, m.query), (&b"n"[..], &b"select"[..]));
     assert!(m.type_oids.iter().eq([23, 4294967294]));
     assert_eq!((m.type_oids.len(), m.type_oids.is_empty(), m.type_oids.iter().len()), (2, false, 2));
+    text(LARGE, |name, out| encode::parse(name, b"", &[], out));
+    text(LARGE, |query, out| encode::parse(b"", query, &[], out));
+    list(COUNT, |n, out| encode::parse(b"", b"", &vec![0; n], out));
 }
 
 #[test]
@@ -41,6 +97,12 @@ fn bind() {
     assert!(m.parameters.iter().eq([Some(&b"ab"[..]), None, Some(b"")]));
     assert_eq!((m.parameters.len(), m.parameters.iter().len()), (3, 3));
     assert!(m.result_column_format_codes.iter().eq([1]));
+    text(LARGE, |portal, out| encode::bind(portal, b"", &[], &[], b"", &[], out));
+    text(LARGE, |statement, out| encode::bind(b"", statement, &[], &[], b"", &[], out));
+    limited(LARGE, |value, out| encode::bind(b"", b"", &[], &[value.len() as i32], value, &[], out));
+    list(COUNT, |n, out| encode::bind(b"", b"", &vec![0; n], &[], b"", &[], out));
+    list(COUNT, |n, out| encode::bind(b"", b"", &[], &vec![-1; n], b"", &[], out));
+    list(COUNT, |n, out| encode::bind(b"", b"", &[], &[], b"", &vec![0; n], out));
 }
 
 #[test]
@@ -59,6 +121,12 @@ fn close_and_describe() {
     assert_eq!(m, Message::Close(Close { target_type: TARGET_TYPE_BYTE_STATEMENT, name: b"ab" }));
     let m = kind(Mode::Frontend, b"D\0\0\0\x06P\0", &[4, 80, 6, 0], |out| encode::describe(b'P', b"", out));
     assert_eq!(m, Message::Describe(Describe { target_type: TARGET_TYPE_BYTE_PORTAL, name: b"" }));
+    for target in [TARGET_TYPE_BYTE_STATEMENT, TARGET_TYPE_BYTE_PORTAL] {
+        text(SMALL, |name, out| encode::close(target, name, out));
+        text(SMALL, |name, out| encode::describe(target, name, out));
+    }
+    one_of(b"SP", |target, out| encode::close(target, b"", out));
+    one_of(b"SP", |target, out| encode::describe(target, b"", out));
 }
 
 #[test]
@@ -68,12 +136,13 @@ fn execute() {
     let numbers = [5, 5, 0, 4294967294];
     let m = kind(Mode::Frontend, b"E\0\0\0\x09\0\xff\xff\xff\xfe", &numbers, |out| encode::execute(b"", -2, out));
     assert_eq!(m, Message::Execute(Execute { name: b"", max_rows: -2 }));
+    text(SMALL, |name, out| encode::execute(name, 0, out));
 }
 
 #[test]
 fn kinds_without_fields() {
     type Writer = fn(&mut [u8]) -> Encoded;
-    let table: [(Mode, u8, usize, Writer, Message); 10] = [
+    let table: &[(Mode, u8, usize, Writer, Message)] = &[
         (Mode::Frontend, b'H', 6, encode::flush, Message::Flush),
         (Mode::Frontend, b'S', 7, encode::sync, Message::Sync),
         (Mode::Frontend, b'c', 8, encode::copy_done, Message::CopyDone),
@@ -85,7 +154,7 @@ fn kinds_without_fields() {
         (Mode::Backend, b'n', 15, encode::no_data, Message::NoData),
         (Mode::Backend, b'I', 16, encode::empty_query_response, Message::EmptyQueryResponse),
     ];
-    for (mode, byte, number, write, message) in table {
+    for &(mode, byte, number, write, message) in table {
         assert_eq!(kind(mode, &[byte, 0, 0, 0, 4], &[number], write), message);
     }
 }
@@ -98,12 +167,14 @@ fn copy_data() {
         let m = kind(mode, b"d\0\0\0\x04", &[9, 5, 0], |out| encode::copy_data(b"", out));
         assert_eq!(m, Message::CopyData(CopyData { data: b"" }));
     }
+    limited(LARGE, encode::copy_data);
 }
 
 #[test]
 fn copy_fail() {
     let m = kind(Mode::Frontend, b"f\0\0\0\x08why\0", &[10, 5, 3], |out| encode::copy_fail(b"why", out));
     assert_eq!(m, Message::CopyFail(CopyFail { message: b"why" }));
+    text(SMALL, encode::copy_fail);
 }
 
 #[test]
@@ -141,11 +212,21 @@ fn row_description() {
 }
 
 #[test]
+fn a_name_and_the_fields_of_a_row_description() {
+    text(LARGE, |name, out| {
+        let field = FieldDescription { name: Span { start: 0, len: name.len() }, ..FieldDescription::default() };
+        encode::row_description(&[field], name, out)
+    });
+    list(COUNT, |n, out| encode::row_description(&vec![FieldDescription::default(); n], b"", out));
+}
+
+#[test]
 fn parameter_description() {
     let frame = b"t\0\0\0\x0e\0\x02\0\0\0\x19\x80\0\0\0";
     let m = kind(Mode::Backend, &frame[..], &[18, 7, 2], |out| encode::parameter_description(&[25, 2147483648], out));
     let Message::ParameterDescription(m) = m else { panic!("{m:?}") };
     assert!(m.types.iter().eq([25, 2147483648]));
+    list(COUNT, |n, out| encode::parameter_description(&vec![0; n], out));
 }
 
 #[test]
@@ -157,12 +238,15 @@ fn a_data_row() {
     // a part of the caller's buffer itself
     assert_eq!(m.data.iter().next().unwrap().unwrap().as_ptr(), frame[11..].as_ptr());
     kind(Mode::Backend, b"D\0\0\0\x06\0\0", &[19, 7, 0], |out| encode::data_row(&[], b"", out));
+    limited(LARGE, |value, out| encode::data_row(&[value.len() as i32], value, out));
+    list(COUNT, |n, out| encode::data_row(&vec![-1; n], b"", out));
 }
 
 #[test]
 fn command_complete() {
     let m = kind(Mode::Backend, b"C\0\0\0\x0dSELECT 1\0", &[20, 5, 8], |out| encode::command_complete(b"SELECT 1", out));
     assert_eq!(m, Message::CommandComplete(CommandComplete { tag: b"SELECT 1" }));
+    text(SMALL, encode::command_complete);
 }
 
 #[test]
@@ -172,6 +256,7 @@ fn ready_for_query() {
         let m = kind(Mode::Backend, &frame, &[21, status as usize], |out| encode::ready_for_query(status, out));
         assert_eq!(m, Message::ReadyForQuery(ReadyForQuery { status }));
     }
+    one_of(b"ITE", encode::ready_for_query);
 }
 
 #[test]
@@ -185,6 +270,8 @@ fn errors_and_notices() {
     let Message::NoticeResponse(m) = m else { panic!("{m:?}") };
     assert!(m.fields.iter().eq([ErrorField { code: b'C', text: b"" }]));
     kind(Mode::Backend, b"E\0\0\0\x05\0", &[22, 5, 0], |out| encode::error_response(b"", &[], b"", out));
+    text(LARGE, |text, out| encode::error_response(b"S", &[text.len() as u32], text, out));
+    text(LARGE, |text, out| encode::notice_response(b"S", &[text.len() as u32], text, out));
 }
 
 #[test]
@@ -202,6 +289,9 @@ fn copy_responses() {
     let Message::CopyBothResponse(m) = m else { panic!("{m:?}") };
     assert_eq!(m.format, -128);
     assert!(m.column_formats.iter().eq([258]));
+    list(4092, |n, out| encode::copy_in_response(0, &vec![0; n], out));
+    list(4092, |n, out| encode::copy_out_response(0, &vec![0; n], out));
+    list(4092, |n, out| encode::copy_both_response(0, &vec![0; n], out));
 }
 
 #[test]
@@ -210,6 +300,8 @@ fn notification_response() {
         encode::notification_response(-7, b"c", b"pq", out)
     });
     assert_eq!(m, Message::NotificationResponse(NotificationResponse { pid: -7, channel: b"c", payload: b"pq" }));
+    text(LARGE, |channel, out| encode::notification_response(0, channel, b"", out));
+    text(LARGE, |payload, out| encode::notification_response(0, b"", payload, out));
 }
 
 #[test]

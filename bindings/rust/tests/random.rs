@@ -3,6 +3,8 @@
 
 mod common;
 
+use common::kinds::Part::{self, *};
+use common::kinds::KINDS;
 use common::round_trip;
 use tusweram::*;
 
@@ -35,54 +37,6 @@ impl Random {
         }
     }
 }
-
-/// A part of a body; a list has a count and its items.
-#[derive(Clone, Copy)]
-enum Part {
-    Text,
-    Rest,
-    Bytes(usize),
-    One(&'static [u8]),
-    List(&'static [Part]),
-    Value,
-    Errors,
-}
-
-use Part::*;
-
-const FIELD: &[Part] = &[Text, Bytes(18)];
-const REPORT: &[Part] = &[Errors];
-const COPY: &[Part] = &[Bytes(1), List(&[Bytes(2)])];
-
-const KINDS: [(Mode, u8, &[Part]); 27] = [
-    (Mode::Frontend, b'P', &[Text, Text, List(&[Bytes(4)])]),
-    (Mode::Frontend, b'B', &[Text, Text, List(&[Bytes(2)]), List(&[Value]), List(&[Bytes(2)])]),
-    (Mode::Frontend, b'C', &[One(b"SP"), Text]),
-    (Mode::Frontend, b'D', &[One(b"SP"), Text]),
-    (Mode::Frontend, b'E', &[Text, Bytes(4)]),
-    (Mode::Frontend, b'H', &[]),
-    (Mode::Frontend, b'S', &[]),
-    (Mode::Frontend, b'c', &[]),
-    (Mode::Frontend, b'd', &[Rest]),
-    (Mode::Frontend, b'f', &[Text]),
-    (Mode::Backend, b'1', &[]),
-    (Mode::Backend, b'2', &[]),
-    (Mode::Backend, b'3', &[]),
-    (Mode::Backend, b's', &[]),
-    (Mode::Backend, b'n', &[]),
-    (Mode::Backend, b'I', &[]),
-    (Mode::Backend, b'T', &[List(FIELD)]),
-    (Mode::Backend, b't', &[List(&[Bytes(4)])]),
-    (Mode::Backend, b'D', &[List(&[Value])]),
-    (Mode::Backend, b'C', &[Text]),
-    (Mode::Backend, b'Z', &[One(b"ITE")]),
-    (Mode::Backend, b'E', REPORT),
-    (Mode::Backend, b'N', REPORT),
-    (Mode::Backend, b'G', COPY),
-    (Mode::Backend, b'H', COPY),
-    (Mode::Backend, b'W', COPY),
-    (Mode::Backend, b'A', &[Bytes(4), Text, Text]),
-];
 
 fn bytes(r: &mut Random, n: usize, out: &mut Vec<u8>) {
     out.extend((0..n).map(|_| if r.below(4) == 0 { r.of(&[0, 255, 128]) } else { r.next() as u8 }));
@@ -143,7 +97,7 @@ fn cases() -> usize {
 #[test]
 fn round_trips() {
     let mut r = Random(1);
-    for (mode, type_byte, body) in KINDS {
+    for &(mode, type_byte, body) in KINDS {
         for _ in 0..cases() {
             round_trip(mode, &frame(&mut r, type_byte, body));
         }

@@ -2,7 +2,7 @@
 
 mod common;
 
-use common::hex;
+use common::{cannot, hex, is_kind};
 use tusweram::*;
 
 fn refused(mode: Mode, text: &str, number: u8, place: usize) {
@@ -22,10 +22,6 @@ fn waits(mode: Mode, text: &str) {
     assert_eq!(element(mode, &hex(text), 0, 0), Element::NeedMore, "{text}");
 }
 
-fn cannot(number: u8, encoded: Encoded) {
-    assert_eq!(encoded, Err(Refusal { number, place: 0 }));
-}
-
 #[test]
 fn refusal_1_mode_unknown() {
     for number in 0..=4 {
@@ -40,9 +36,12 @@ fn refusal_1_mode_unknown() {
 
 #[test]
 fn refusal_2_type_unknown() {
-    refused(Mode::Backend, "53 00 00 00 04", 2, 0);
-    refused(Mode::Backend, "53", 2, 0);
-    refused(Mode::Frontend, "00", 2, 0);
+    for mode in [Mode::Frontend, Mode::Backend] {
+        for byte in (0..=255).filter(|byte| !is_kind(mode, *byte)) {
+            refused(mode, &format!("{byte:02X} 00 00 00 04"), 2, 0);
+            refused(mode, &format!("{byte:02X}"), 2, 0);
+        }
+    }
     refused(Mode::SslResponse, "45", 2, 0);
     refused(Mode::SslResponse, "47", 2, 0);
     refused(Mode::GssEncResponse, "53", 2, 0);
@@ -62,6 +61,7 @@ fn refusal_3_length_too_small() {
 
 #[test]
 fn refusal_4_length_above_limit() {
+    // tests/kinds.rs has this of every encoder
     waits(Mode::Frontend, "45 00 00 20 00");
     refused(Mode::Frontend, "45 00 00 20 01", 4, 1);
     waits(Mode::Frontend, "50 00 10 00 00");
@@ -69,26 +69,6 @@ fn refusal_4_length_above_limit() {
     refused(Mode::Backend, "44 7F FF FF FF", 4, 1);
     refused(Mode::CancelRequest, "00 00 20 01 04 D2 16 2E", 4, 0);
     waits(Mode::CancelRequest, "00 00 20 00 04 D2 16 2E");
-    let out = &mut vec![0; 2000000][..];
-    let (small, large) = (&[b'a'; 8188][..], &vec![b'a'; 1048573][..]);
-    cannot(4, encode::copy_data(large, out));
-    cannot(4, encode::copy_fail(small, out));
-    cannot(4, encode::command_complete(small, out));
-    cannot(4, encode::execute(&small[4..], 0, &mut []));
-    cannot(4, encode::close(b'S', &small[1..], out));
-    cannot(4, encode::describe(b'P', &small[1..], out));
-    cannot(4, encode::parse(b"", large, &[], out));
-    cannot(4, encode::bind(b"", large, &[], &[], b"", &[], out));
-    cannot(4, encode::data_row(&[1048573], large, out));
-    cannot(4, encode::error_response(b"S", &[1048573], large, out));
-    cannot(4, encode::notice_response(b"S", &[1048573], large, out));
-    cannot(4, encode::notification_response(0, large, b"", out));
-    cannot(4, encode::copy_in_response(0, &[0; 4093], out));
-    cannot(4, encode::copy_out_response(0, &[0; 4093], out));
-    cannot(4, encode::copy_both_response(0, &[0; 4093], out));
-    let field = FieldDescription { name: Span { start: 0, len: 1048573 }, ..FieldDescription::default() };
-    cannot(4, encode::row_description(&[field], large, out));
-    assert!(out.iter().all(|byte| *byte == 0));
 }
 
 #[test]
@@ -142,44 +122,10 @@ fn refusal_9_output_too_short() {
 
 #[test]
 fn refusal_10_not_representable() {
-    let out = &mut vec![0; 200000][..];
-    // a zero byte in a text
-    cannot(10, encode::parse(b"a\0", b"", &[], out));
-    cannot(10, encode::parse(b"", b"\0", &[], out));
-    cannot(10, encode::bind(b"\0", b"", &[], &[], b"", &[], out));
-    cannot(10, encode::bind(b"", b"a\0b", &[], &[], b"", &[], out));
-    cannot(10, encode::close(b'S', b"\0", out));
-    cannot(10, encode::describe(b'S', b"\0", out));
-    cannot(10, encode::execute(b"\0", 0, out));
-    cannot(10, encode::copy_fail(b"\0", out));
-    cannot(10, encode::command_complete(b"\0", out));
-    cannot(10, encode::notification_response(0, b"\0", b"", out));
-    cannot(10, encode::notification_response(0, b"", b"\0", out));
-    cannot(10, encode::error_response(b"S", &[2], b"a\0", out));
-    let field = FieldDescription { name: Span { start: 0, len: 1 }, ..FieldDescription::default() };
-    cannot(10, encode::row_description(&[field], b"\0", out));
+    // tests/kinds.rs has this of every text, every counted list, and every byte that is one of some
+    let out = &mut [0; 64];
     // an error's code is zero
     cannot(10, encode::notice_response(b"S\0", &[0, 0], b"", out));
-    // a list is longer than a count can say
-    cannot(10, encode::parse(b"", b"", &[0; 32768], out));
-    cannot(10, encode::parameter_description(&[0; 32768], out));
-    cannot(10, encode::data_row(&[-1; 32768], b"", out));
-    cannot(10, encode::bind(b"", b"", &[0; 32768], &[], b"", &[], out));
-    cannot(10, encode::bind(b"", b"", &[], &[-1; 32768], b"", &[], out));
-    cannot(10, encode::bind(b"", b"", &[], &[], b"", &[0; 32768], out));
-    cannot(10, encode::copy_in_response(0, &[0; 32768], out));
-    cannot(10, encode::copy_out_response(0, &[0; 32768], out));
-    cannot(10, encode::copy_both_response(0, &[0; 32768], out));
-    let nameless = FieldDescription::default();
-    cannot(10, encode::row_description(&[nameless; 32768], b"", out));
-    // a target, a status
-    for byte in (0..=255).filter(|byte| !b"SP".contains(byte)) {
-        cannot(10, encode::close(byte, b"", out));
-        cannot(10, encode::describe(byte, b"", out));
-    }
-    for byte in (0..=255).filter(|byte| !b"ITE".contains(byte)) {
-        cannot(10, encode::ready_for_query(byte, out));
-    }
     // a length below -1; lengths that do not add up
     cannot(10, encode::data_row(&[-2], b"", out));
     cannot(10, encode::data_row(&[i32::MIN], b"", out));
@@ -196,10 +142,11 @@ fn refusal_10_not_representable() {
     cannot(10, encode::error_response(b"SM", &[1], b"a", out));
     cannot(10, encode::notice_response(b"S", &[1, 0], b"a", out));
     // a name outside the run
+    let field = FieldDescription { name: Span { start: 0, len: 1 }, ..FieldDescription::default() };
     cannot(10, encode::row_description(&[field], b"", out));
     // 10 comes before 4 and 9, and nothing was written
     cannot(10, encode::command_complete(&[0; 9000], &mut []));
-    assert!(out.iter().all(|byte| *byte == 0));
+    assert_eq!(*out, [0; 64]);
 }
 
 #[test]

@@ -4,7 +4,7 @@ use crate::content::Content;
 use crate::inputs;
 use crate::judging::{Case, Run, Verdict};
 use crate::model::{framing, numbers, Answer, Framing};
-use crate::oracle::Seen;
+use crate::oracle::{self, Seen};
 use std::collections::BTreeMap;
 
 /// The lines so far, by the sort of their cases.
@@ -16,7 +16,7 @@ pub struct FixedList {
 impl FixedList {
     /// A few cases of each sort are taken.
     pub fn take(&mut self, case: &Case, answer: &Answer, verdict: &Verdict, source: &str) {
-        if case.buf.len() > 80 || case.mode > 9 {
+        if case.buf.len() > 80 || case.mode > 9 || may_become_a_kind(case) {
             return;
         }
         let most = if source.starts_with("every") { 1 } else { 5 };
@@ -29,6 +29,11 @@ impl FixedList {
             lines.push(line);
         }
     }
+}
+
+/// Of the types that are left out the first stands for all: when another becomes a kind, the list still holds.
+fn may_become_a_kind(case: &Case) -> bool {
+    framing(case.mode) == Some(Framing::Typed) && oracle::left_out(case.mode).skip(1).any(|byte| case.buf.first() == Some(&byte))
 }
 
 /// What makes two cases alike: source, mode, kind, our answer and the verdict.

@@ -1,11 +1,24 @@
 //! What the tests share.
 #![allow(dead_code)]
 
+pub mod kinds;
+
+use kinds::{walked, write, KINDS};
 use tusweram::*;
 
 /// Bytes from hexadecimal digits, with blanks between them.
 pub fn hex(text: &str) -> Vec<u8> {
     text.split_whitespace().map(|byte| u8::from_str_radix(byte, 16).unwrap()).collect()
+}
+
+/// Whether a type byte tells a kind of the mode.
+pub fn is_kind(mode: Mode, type_byte: u8) -> bool {
+    KINDS.iter().any(|row| (row.0, row.1) == (mode, type_byte))
+}
+
+/// An encoder's refusal.
+pub fn cannot(number: u8, encoded: Encoded) {
+    assert_eq!(encoded, Err(Refusal { number, place: 0 }));
 }
 
 /// Values as an encoder takes them: lengths, and the joined bytes.
@@ -54,82 +67,6 @@ fn formats(list: Formats) -> Vec<i16> {
     list.iter().collect()
 }
 
-/// A message, written again from what was read.
-pub fn write(message: &Message, out: &mut [u8]) -> Encoded {
-    match *message {
-        Message::Parse(m) => encode::parse(m.name, m.query, &oids(m.type_oids), out),
-        Message::Bind(m) => {
-            let (lengths, bytes) = joined(m.parameters);
-            let given = formats(m.parameter_format_codes);
-            let results = formats(m.result_column_format_codes);
-            encode::bind(m.portal_name, m.statement_name, &given, &lengths, &bytes, &results, out)
-        }
-        Message::Close(m) => encode::close(m.target_type, m.name, out),
-        Message::Describe(m) => encode::describe(m.target_type, m.name, out),
-        Message::Execute(m) => encode::execute(m.name, m.max_rows, out),
-        Message::Flush => encode::flush(out),
-        Message::Sync => encode::sync(out),
-        Message::CopyDone => encode::copy_done(out),
-        Message::CopyData(m) => encode::copy_data(m.data, out),
-        Message::CopyFail(m) => encode::copy_fail(m.message, out),
-        Message::ParseComplete => encode::parse_complete(out),
-        Message::BindComplete => encode::bind_complete(out),
-        Message::CloseComplete => encode::close_complete(out),
-        Message::PortalSuspended => encode::portal_suspended(out),
-        Message::NoData => encode::no_data(out),
-        Message::EmptyQueryResponse => encode::empty_query_response(out),
-        Message::RowDescription(m) => {
-            let (records, run) = records(m.fields);
-            encode::row_description(&records, &run, out)
-        }
-        Message::ParameterDescription(m) => encode::parameter_description(&oids(m.types), out),
-        Message::DataRow(m) => {
-            let (lengths, bytes) = joined(m.data);
-            encode::data_row(&lengths, &bytes, out)
-        }
-        Message::CommandComplete(m) => encode::command_complete(m.tag, out),
-        Message::ReadyForQuery(m) => encode::ready_for_query(m.status, out),
-        Message::ErrorResponse(m) => {
-            let (codes, lengths, texts) = report(m.fields);
-            encode::error_response(&codes, &lengths, &texts, out)
-        }
-        Message::NoticeResponse(m) => {
-            let (codes, lengths, texts) = report(m.fields);
-            encode::notice_response(&codes, &lengths, &texts, out)
-        }
-        Message::CopyInResponse(m) => encode::copy_in_response(m.format, &formats(m.column_formats), out),
-        Message::CopyOutResponse(m) => encode::copy_out_response(m.format, &formats(m.column_formats), out),
-        Message::CopyBothResponse(m) => encode::copy_both_response(m.format, &formats(m.column_formats), out),
-        Message::NotificationResponse(m) => encode::notification_response(m.pid, m.channel, m.payload, out),
-        Message::CancelRequest(m) => encode::cancel_request(m.pid, m.secret_key, out),
-        Message::SslResponse(m) => encode::ssl_response(m, out),
-        Message::GssEncResponse(m) => encode::gss_enc_response(m, out),
-    }
-}
-
-/// The elements of a message's lists by their iterators, list by list.
-fn walked<'a>(message: &Message<'a>) -> Vec<Vec<Element<'a>>> {
-    let oids = |list: Oids<'a>| list.iter().map(Element::Oid).collect();
-    let formats = |list: Formats<'a>| list.iter().map(Element::Format).collect();
-    let values = |list: Values<'a>| list.iter().map(|v| v.map_or(Element::Null, Element::Value)).collect();
-    let errors = |list: ErrorFields<'a>| list.iter().map(Element::ErrorField).collect();
-    match *message {
-        Message::Parse(m) => vec![oids(m.type_oids)],
-        Message::Bind(m) => {
-            vec![formats(m.parameter_format_codes), values(m.parameters), formats(m.result_column_format_codes)]
-        }
-        Message::RowDescription(m) => vec![m.fields.iter().map(Element::Field).collect()],
-        Message::ParameterDescription(m) => vec![oids(m.types)],
-        Message::DataRow(m) => vec![values(m.data)],
-        Message::ErrorResponse(m) => vec![errors(m.fields)],
-        Message::NoticeResponse(m) => vec![errors(m.fields)],
-        Message::CopyInResponse(m) => vec![formats(m.column_formats)],
-        Message::CopyOutResponse(m) => vec![formats(m.column_formats)],
-        Message::CopyBothResponse(m) => vec![formats(m.column_formats)],
-        _ => vec![],
-    }
-}
-
 /// What the iterators give is what the element calls give, and past each list and behind the last there is none.
 pub fn same_elements(mode: Mode, buf: &[u8], message: &Message) {
     let none = Element::Refused(Refusal { number: refusal::NO_SUCH_ELEMENT, place: 0 });
@@ -161,8 +98,8 @@ pub fn same_row(buf: &[u8], row: &DataRow) {
     assert_eq!((starts[count], lengths[count]), (7, 7));
 }
 
-/// One frame: it decodes, alone and with bytes behind it, each cut of it waits, and written again it is the same, in a buffer that is just long
-/// enough, too short, and longer.
+/// One frame: it decodes, alone and with bytes behind it, and written again it is the same, in a buffer that is just long enough and in a longer
+/// one; in one that is too short nothing is written.
 pub fn round_trip<'a>(mode: Mode, frame: &'a [u8]) -> Message<'a> {
     let Decoded::Record(message, consumed) = decode(mode, frame) else { panic!("{frame:x?} in {mode:?}: {:?}", decode(mode, frame)) };
     assert_eq!(consumed, frame.len());
@@ -185,7 +122,7 @@ pub fn round_trip<'a>(mode: Mode, frame: &'a [u8]) -> Message<'a> {
     assert!(out[consumed..].iter().all(|byte| *byte == 0xaa));
     for short in [frame.len() - 1, frame.len() / 2, 0] {
         let mut out = vec![0xaa; short];
-        assert_eq!(write(&message, &mut out), Err(Refusal { number: refusal::OUTPUT_TOO_SHORT, place: 0 }));
+        cannot(refusal::OUTPUT_TOO_SHORT, write(&message, &mut out));
         assert!(out.iter().all(|byte| *byte == 0xaa));
     }
     message

@@ -34,7 +34,9 @@ pub fn for_the_list(run: &mut Run, seed: u64, folder: &str) {
     let mut r = Rng(seed);
     generated::bytes_alone(run);
     generated::exhaustive(run, &generated::ALPHABET[..3]);
-    real::real_traffic(run, &mut r, &real::corpus(folder), 4);
+    let traffic = real::corpus(folder);
+    real::real_traffic(run, &mut r, &traffic, 4);
+    real::real_traffic(run, &mut r.clone(), &real::left_out(&traffic), 4);
     for _ in 0..20_000 {
         generated::random(run, &mut r);
     }

@@ -3,6 +3,8 @@
 use super::damaged::around;
 use super::Rng;
 use crate::judging::Run;
+use crate::model::{framing, Framing};
+use crate::oracle;
 
 /// A frame and its mode.
 pub type Moded = (u8, Vec<u8>);
@@ -36,6 +38,18 @@ fn frames(stream: &[u8], front: bool) -> Vec<Moded> {
         let n = word(at + 1) + 1;
         out.push((if front { 0 } else { 1 }, stream[at..(at + n).min(stream.len())].to_vec()));
         at += n;
+    }
+    out
+}
+
+/// The frames of a type that is left out, under the first such type: it stands for all of them in the fixed list.
+pub fn left_out(frames: &[Moded]) -> Vec<Moded> {
+    let mut out = Vec::new();
+    for (mode, f) in frames.iter().filter(|(mode, _)| framing(*mode) == Some(Framing::Typed)) {
+        let types: Vec<u8> = oracle::left_out(*mode).collect();
+        if types.contains(&f[0]) {
+            out.push((*mode, [&types[..1], &f[1..]].concat()));
+        }
     }
     out
 }

@@ -2,7 +2,7 @@
 
 use crate::content::{Content, Field};
 use crate::model::{self, framing, kind_of, numbered, Answer, Kind, Part};
-use crate::oracle::Seen;
+use crate::oracle::{self, Seen};
 
 #[derive(Clone, PartialEq, Eq, Debug)]
 pub enum Verdict {
@@ -22,17 +22,6 @@ pub const ENTRIES: [&str; 20] = [
     "mode", "one-byte", "left-out", "copy-fail-from-backend", "answer-byte", "negative-length", "short-length", "limits", "signed-count",
     "count", "missing-zero", "past-the-frame", "cut", "bytes-left", "target", "value-length", "data-row", "error-fields", "cancel-key", "text",
 ];
-
-/// The Rust's limit of a kind's length: large where ours is, and for each side its own. What both sides send has the frontend's.
-fn rust_limit(kind: &Kind) -> i64 {
-    let from_backend = numbered(kind.number).mode == 1;
-    match (from_backend, kind.has_large_limit()) {
-        (true, true) => i32::MAX as i64,
-        (true, false) => 30_000,
-        (false, true) => 0x3fff_fffe,
-        (false, false) => 10_000,
-    }
-}
 
 /// The Rust reads a count of oids, and each count of Bind, as an unsigned number. A DataRow's values it does not read.
 fn counts_are_unsigned(kind: &Kind) -> bool {
@@ -146,8 +135,9 @@ fn unknown(case: &Case) -> Verdict {
         3 | 4 => when(case.waits(), Under("answer-byte"), "an unknown answer byte"),
         _ if case.buf.len() == 1 => when(case.waits(), Under("one-byte"), "one byte of an unknown type"),
         1 if case.buf[0] == b'f' => Under("copy-fail-from-backend"),
-        0 if b"pQX".contains(&case.buf[0]) => Under("left-out"),
-        1 if b"RSKv".contains(&case.buf[0]) => Under("left-out"),
+        mode if oracle::left_out(mode).any(|byte| byte == case.buf[0]) => {
+            when(!case.refused("InvalidMessageType"), Under("left-out"), "a type that the Rust is said to know")
+        }
         _ => when(case.refused("InvalidMessageType"), BothRefuse, "an unknown type"),
     }
 }
@@ -166,7 +156,7 @@ fn too_short(case: &Case) -> Verdict {
 }
 
 fn too_long(case: &Case) -> Verdict {
-    if case.length() > rust_limit(case.kind()) {
+    if case.length() > oracle::limit(case.kind().number) {
         return when(case.refused("MessageTooLarge"), BothRefuse, "a length above both limits");
     }
     // As if there were no limit here, the two are to be alike, or to differ under another entry.

@@ -92,10 +92,6 @@ impl Kind {
         self.body == [Values]
     }
 
-    pub fn has_large_limit(&self) -> bool {
-        self.limit == L
-    }
-
     pub fn framing(&self) -> Framing {
         framing(self.mode).expect("a mode of the table")
     }

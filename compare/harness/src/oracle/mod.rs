@@ -1,11 +1,13 @@
 //! pgwire 0.41.0, called as it is. It panics on much of what is damaged, so every call stands in catch_unwind.
 
+mod kinds;
 mod read;
 mod write;
 
-pub use write::{message, Either};
+pub use kinds::{left_out, limit};
 
 use crate::content::Content;
+use crate::model::numbered;
 use bytes::BytesMut;
 use pgwire::error::PgWireError;
 use pgwire::messages::cancel::CancelRequest;
@@ -66,9 +68,9 @@ pub fn decode(mode: u8, buf: &[u8]) -> (Seen, usize) {
     let answer = caught(|| {
         let ctx = context(mode);
         match mode {
-            0 => Front::decode(&mut bytes, &ctx).map(|m| m.map(read::front)),
-            2 => CancelRequest::decode(&mut bytes, &ctx).map(|m| m.map(|m| Some(read::cancel(&m)))),
-            _ => Back::decode(&mut bytes, &ctx).map(|m| m.map(read::back)),
+            0 => Front::decode(&mut bytes, &ctx).map(|m| m.map(kinds::read_front)),
+            2 => CancelRequest::decode(&mut bytes, &ctx).map(|m| m.map(Front::CancelRequest).map(kinds::read_front)),
+            _ => Back::decode(&mut bytes, &ctx).map(|m| m.map(kinds::read_back)),
         }
     });
     let seen = match answer {
@@ -79,6 +81,19 @@ pub fn decode(mode: u8, buf: &[u8]) -> (Seen, usize) {
         Some(Err(e)) => Seen::Refused(name(&e)),
     };
     (seen, buf.len() - bytes.len())
+}
+
+pub enum Either {
+    Front(Front),
+    Back(Back),
+}
+
+/// What a client can send, cancel requests too, as such a message; all else as a server's.
+pub fn message(c: &Content) -> Option<Either> {
+    match numbered(c.kind).mode {
+        0 | 2 => kinds::made_front(c).map(Either::Front),
+        _ => kinds::made_back(c).map(Either::Back),
+    }
 }
 
 /// What the Rust writes of a content; None where it has no form for it (text that is no UTF-8).
