@@ -18,7 +18,6 @@ ghost use Rattle.protocol.specs.WellFormed.{header};
 ghost use Rattle.writers.specs.Writing.{Put, Wrote, largest, verdictOf};
 use protocol::Encoded;
 use protocol::kinds::LARGE_FRAME;
-use protocol::kinds::MOST_SIGNED;
 use protocol::refusal::LENGTH_ABOVE_LIMIT;
 use protocol::refusal::NOT_REPRESENTABLE;
 use protocol::refusal::OUTPUT_TOO_SHORT;
@@ -249,8 +248,8 @@ fn store_halves(out: &mut [u8], at: usize, xs: &[i16]) -> usize
     p
 }
 
-// Oids and formats, with their count before them.
-fn store_oids(out: &mut [u8], at: usize, xs: &[u32]) -> usize
+// Oids and formats, with their count before them. The caller has asked for room, and for so few elements that a count can say it.
+pub fn store_oids(out: &mut [u8], at: usize, xs: &[u32]) -> usize
     requires { ⌜ (at + 4 * length (now xs) + 2 ≤ length (now out)) × (length (now xs) ≤ most signedCount) ⌝ }
     ensures { λ r. ⌜ Wrote (now (out .entry)) at (bytes oids (items (now (xs .entry)))) (2 + 4 * length (now (xs .entry))) (now (out .exit)) r ⌝ }
 {
@@ -258,7 +257,7 @@ fn store_oids(out: &mut [u8], at: usize, xs: &[u32]) -> usize
     store_words(out, first, xs)
 }
 
-fn store_formats(out: &mut [u8], at: usize, xs: &[i16]) -> usize
+pub fn store_formats(out: &mut [u8], at: usize, xs: &[i16]) -> usize
     requires { ⌜ (at + 2 * length (now xs) + 2 ≤ length (now out)) × (length (now xs) ≤ most signedCount) ⌝ }
     ensures { λ r. ⌜ Wrote (now (out .entry)) at (bytes formats (items (now (xs .entry)))) (2 + 2 * length (now (xs .entry))) (now (out .exit)) r ⌝ }
 {
@@ -380,25 +379,6 @@ pub fn put_pairs(out: &mut [u8], at: usize, a: u32, b: u16, c: u32, d: u16, e: u
 {
     if room(true, out.len(), at, 18) {
         return store_pairs(out, at, a, b, c, d, e, f);
-    }
-    at
-}
-
-// A list of more than MOST_SIGNED has no count: nothing is written.
-pub fn put_oids(out: &mut [u8], at: usize, xs: &[u32]) -> usize
-    ensures { λ r. ⌜ Put (leb (length (now (xs .entry))) (most signedCount)) (now (out .entry)) at (bytes oids (items (now (xs .entry)))) (2 + 4 * length (now (xs .entry))) (now (out .exit)) r ⌝ }
-{
-    if room(xs.len() <= MOST_SIGNED, out.len(), at, 2 + 4 * xs.len()) {
-        return store_oids(out, at, xs);
-    }
-    at
-}
-
-pub fn put_formats(out: &mut [u8], at: usize, xs: &[i16]) -> usize
-    ensures { λ r. ⌜ Put (leb (length (now (xs .entry))) (most signedCount)) (now (out .entry)) at (bytes formats (items (now (xs .entry)))) (2 + 2 * length (now (xs .entry))) (now (out .exit)) r ⌝ }
-{
-    if room(xs.len() <= MOST_SIGNED, out.len(), at, 2 + 2 * xs.len()) {
-        return store_formats(out, at, xs);
     }
     at
 }
