@@ -7,8 +7,7 @@ use Rattle.protocol.specs.Kinds as K
 use Rattle.protocol.specs.Kinds.{Kind, Mode, modes, nullable, valueElement, the-table}
 use Rattle.protocol.proofs.Find.{All, in-all}
 use Rattle.by_kind.specs.Document as Document
-use Rattle.by_kind.specs.Document.{lineOf, RecordNamed, ItemNamed, ItemsNamed, bytesOf, tlsBytes, gssBytes, TableIsDocument}
-use Rattle.by_kind.specs.FieldNames.{orNull, _∶_, elementFields}
+use Rattle.by_kind.specs.Document.{orNull, _≔_, elementFields, lineOf, RecordNamed, ItemNamed, ItemsNamed, bytesOf, tlsBytes, gssBytes, TableIsDocument}
 
 -- ---- lines
 
@@ -23,7 +22,7 @@ backend-lines = refl
 -- ---- the names of what a record and its elements hold
 
 -- a value, or NULL
-value-by : (v : Option Span) → elementFields (valueElement v) ≡ "value" ∶ orNull v ∷ []
+value-by : (v : Option Span) → elementFields (valueElement v) ≡ "value" ≔ orNull v ∷ []
 unfolding valueElement
 value-by none = refl
 value-by (some v) = refl

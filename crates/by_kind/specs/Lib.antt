@@ -1,4 +1,3 @@
-pub mod FieldNames
 pub mod Document
 pub mod Values
 pub mod ByName

@@ -56,9 +56,9 @@ returns-9 c =
     let s = c .before .before .before .before .before .before .before .before .before .before in
     arm (rows s) (c .before .before .before .before .match .keys9) (rw (toZ-ofZ w8 (s .args .format) (s .fits .format)) at (c .before .before .copy-both-response .ensures)) refl
 
-returns-10 : tie.Need-returns-10
+others : tie.Need-returns-10
 unfolding the-table
-returns-10 c = unknown (rows (c .before .before .before .before .before .before)) _ (c .match .rest)
+others c = unknown (rows (c .before .before .before .before .before .before)) _ (c .match .rest)
 
 pub listed-spec : {M : Type 1} → statement M
 listed-spec =
@@ -91,4 +91,4 @@ listed-spec =
     returns-8
     (λ c. search needs)
     returns-9
-    returns-10)
+    others)

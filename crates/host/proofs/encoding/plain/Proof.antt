@@ -68,9 +68,9 @@ returns-11 : tie.Need-returns-11
 unfolding the-table askedIn find
 returns-11 c = chosen (rows (c .before .before .before .before .before .before .before .before)) (c .before .before .before .before .match .keys11) (c .before .before .gss .ensures) refl
 
-returns-12 : tie.Need-returns-12
+others : tie.Need-returns-12
 unfolding the-table
-returns-12 c = rw (past (fielded (c .before .before .before .before .before .before .before .before)) bareRows _ (c .before .before .before .before .match .rest)) (c .before .before .bare .ensures)
+others c = rw (past (fielded (c .before .before .before .before .before .before .before .before)) bareRows _ (c .before .before .before .before .match .rest)) (c .before .before .bare .ensures)
 
 pub plain-spec : {M : Type 1} → statement M
 plain-spec =
@@ -111,4 +111,4 @@ plain-spec =
     (λ c. search needs)
     returns-11
     (λ c. search needs)
-    returns-12)
+    others)
