@@ -24,8 +24,8 @@ use writers::bits8;
 use writers::plus;
 use writers::put_byte;
 use writers::put_bytes;
+use writers::put_formats;
 use writers::put_head;
-use writers::store_formats;
 use writers::verdict;
 
 fn write_copy_data(data: &[u8], n: usize, out: &mut [u8])
@@ -71,7 +71,7 @@ fn write_copy_response(type_byte: u8, format: u8, column_formats: &[i16], n: usi
 {
     let at = put_head(out, type_byte, n);
     let at = put_byte(out, at, format);
-    store_formats(out, at, column_formats);
+    put_formats(out, at, column_formats);
 }
 
 // What the three copy responses have in common.

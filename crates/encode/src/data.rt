@@ -24,7 +24,7 @@ use row_fields::each;
 use row_fields::writing_pass;
 use writers::plus;
 use writers::put_head;
-use writers::store_oids;
+use writers::put_oids;
 use writers::values::values_given;
 use writers::verdict;
 
@@ -49,14 +49,14 @@ fn write_parameter_description(types: &[u32], n: usize, out: &mut [u8])
     ensures { λ r. ⌜ WroteFrame K.typed K.parameterDescription (G.parameterDescription (now (types .entry))) (now (out .entry)) (now (out .exit)) ⌝ }
 {
     let at = put_head(out, MESSAGE_TYPE_BYTE_PARAMETER_DESCRITION, n);
-    store_oids(out, at, types);
+    put_oids(out, at, types);
 }
 
 pub fn parameter_description(types: &[u32], out: &mut [u8]) -> Encoded
     ensures { λ r. ⌜ Encodes K.backend K.parameterDescription (G.parameterDescription (now (types .entry))) (now (out .entry)) r (now (out .exit)) ⌝ }
 {
     let able = types.len() <= MOST_SIGNED;
-    let size = plus(types.len() * 4, 6);
+    let size = types.len() * 4 + 6;
     let r = verdict(able, LARGE, size, out.len());
     let Encoded::Done(n) = r else {
         return r;

@@ -34,11 +34,11 @@ use writers::no_zero;
 use writers::plus;
 use writers::plus4;
 use writers::put_byte;
+use writers::put_formats;
 use writers::put_head;
+use writers::put_oids;
 use writers::put_text;
 use writers::put_word;
-use writers::store_formats;
-use writers::store_oids;
 use writers::values::values_given;
 use writers::verdict;
 
@@ -49,7 +49,7 @@ fn write_parse(name: &[u8], query: &[u8], type_oids: &[u32], n: usize, out: &mut
     let at = put_head(out, MESSAGE_TYPE_BYTE_PARSE, n);
     let at = put_text(out, at, name);
     let at = put_text(out, at, query);
-    store_oids(out, at, type_oids);
+    put_oids(out, at, type_oids);
 }
 
 pub fn parse(name: &[u8], query: &[u8], type_oids: &[u32], out: &mut [u8]) -> Encoded
@@ -81,9 +81,9 @@ fn write_bind(
     let at = put_head(out, MESSAGE_TYPE_BYTE_BIND, n);
     let at = put_text(out, at, portal_name);
     let at = put_text(out, at, statement_name);
-    let at = store_formats(out, at, parameter_format_codes);
+    let at = put_formats(out, at, parameter_format_codes);
     let at = put_values(out, at, lengths, joined);
-    store_formats(out, at, result_column_format_codes);
+    put_formats(out, at, result_column_format_codes);
 }
 
 pub fn bind(

@@ -14,7 +14,7 @@ use Rattle.encode.proofs.data.parameter_description.Statement.{statemen
 use Rattle.encode.proofs.data.parameter_description.Tie as tie
 
 abbrev start : tie.After-verdict → tie.Start
-start c = c .before .before .before .before
+start c = c .before .before .before
 
 says : (c : tie.After-verdict) → let a = start c .args in
     Judged K.backend K.parameterDescription (G.parameterDescription (now (a .types))) (length (now (a .out))) (c .verdict .result)
@@ -43,7 +43,7 @@ parameter-description-spec =
     tie.close
     (tie.spec
     (λ c. search needs)
-    (λ c κs. search needs)
+    (λ c. search needs)
     (λ c κs. search needs)
     (λ c. search needs)
     (λ c. search needs)

@@ -1,6 +1,7 @@
 -- `encode::data::write_parameter_description` meets its contract.
 use native.Mathlib.Omega.{arith}
 use borrow.Author.Needs.{needs}
+use borrow.Author.Tests.{le-leb}
 use denote.Ref.{now}
 use Rattle.protocol.specs.Each.{bytesOfEach}
 use Rattle.protocol.specs.Encode.{items}
@@ -20,7 +21,7 @@ returns c =
     let c1 = c2 .before .before .before .before in
     let s = c1 .before .before .before .before in
     framed-put K.parameterDescription (items (now (s .args .types)), tt) (c1 .put-head .ensures)
-    ((λ _. c2 .store-oids .ensures) and none)
+    (c2 .put-oids .ensures .fits (le-leb _ _ (s .pre .3)) and none)
     (omega (arith, s .pre)) (s .pre .1) (s .pre .2)
 
 pub write-parameter-description-spec : {M : Type 1} → statement M

@@ -2,6 +2,7 @@
 use mathlib.Core.Path.{refl}
 use native.Mathlib.Omega.{arith}
 use borrow.Author.Needs.{needs}
+use borrow.Author.Tests.{le-leb}
 use denote.Ref.{now}
 use Rattle.protocol.specs.Each.{bytesOfEach}
 use Rattle.protocol.specs.Encode.{items, valuesGiven}
@@ -32,7 +33,7 @@ returns c =
     (λ vs is.
     framed-put K.bind (now (a .portal-name), (now (a .statement-name), (items (now (a .parameter-format-codes)), (vs, (items (now (a .result-column-format-codes)), tt)))))
     (c1 .put-head .ensures)
-    (c2 .put-text .ensures .fits refl and c3 .put-text2 .ensures .fits refl and (λ _. c4 .store-formats .ensures) and (λ _. c5 .put-values .ensures .field vs is) and (λ _. c6 .store-formats2 .ensures) and none)
+    (c2 .put-text .ensures .fits refl and c3 .put-text2 .ensures .fits refl and c4 .put-formats .ensures .fits (le-leb _ _ (s .pre .3)) and (λ _. c5 .put-values .ensures .field vs is) and c6 .put-formats2 .ensures .fits (le-leb _ _ (s .pre .5)) and none)
     (omega (arith, s .pre)) (s .pre .1) (s .pre .2))
 
 pub write-bind-spec : {M : Type 1} → statement M

@@ -2,6 +2,7 @@
 use mathlib.Core.Path.{refl}
 use native.Mathlib.Omega.{arith}
 use borrow.Author.Needs.{needs}
+use borrow.Author.Tests.{le-leb}
 use denote.Ref.{now}
 use Rattle.protocol.specs.Each.{bytesOfEach}
 use Rattle.protocol.specs.Encode.{items}
@@ -23,7 +24,7 @@ returns c =
     let c1 = c2 .before .before .before .before in
     let s = c1 .before .before .before .before .before .before in
     framed-put K.parse (now (s .args .name), (now (s .args .query), (items (now (s .args .type-oids)), tt))) (c1 .put-head .ensures)
-    (c2 .put-text .ensures .fits refl and c3 .put-text2 .ensures .fits refl and (λ _. c4 .store-oids .ensures) and none)
+    (c2 .put-text .ensures .fits refl and c3 .put-text2 .ensures .fits refl and c4 .put-oids .ensures .fits (le-leb _ _ (s .pre .3)) and none)
     (omega (arith, s .pre)) (s .pre .1) (s .pre .2)
 
 pub write-parse-spec : {M : Type 1} → statement M
