@@ -1,17 +1,8 @@
 -- `messages::copy::copy_fail` meets its contract: at each point, what is left to read is what there was at first.
-use Prim.Native.Nat.{ℕ}
-use mathlib.Core.List.{List, [], _∷_}
 use mathlib.Core.Path.{ap, sym, _∙_}
 use borrow.Author.Needs.{needs}
-use lib.ListN.{take}
-use Rattle.protocol.specs.declared.Message.{Message}
-use Rattle.protocol.specs.Decode.{decodeAs}
-use Rattle.protocol.specs.Each.{Each}
-use Rattle.protocol.specs.Fields.{Field, Slot}
 use Rattle.protocol.specs.Kinds.{typed, copyFail}
-use Rattle.protocol.specs.Records as R
 use Rattle.codec.specs.Answers.{textRead}
-use Rattle.envelope.proofs.Points as P
 use Rattle.envelope.proofs.Points.{on, off, done, begin, none, ends}
 use Rattle.messages.proofs.copy.copy_fail.Statement.{statement}
 use Rattle.messages.proofs.copy.copy_fail.Tie as tie
@@ -20,30 +11,21 @@ returns : tie.Need-returns
 unfolding copyFail
 returns c = c .unframed .ensures ∙ none _ typed copyFail (c .before .before .before .before .args .buf .now) (c .before .before .typed .ensures) (c .before .match .keys2)
 
--- a whole frame
-abbrev start : tie.After-frame → tie.Start
-start c = c .before .before .before .before .before .before
-
 slice-aggregate-frame : tie.Need-slice-aggregate-frame
-slice-aggregate-frame c = sym (ends typed _ (start c .args .buf .now) (c .before .before .before .before .typed .ensures) (c .before .before .header .given .1))
-
-abbrev Left : tie.After-frame → (xs : List Field) → (Each Slot xs → Message) → ℕ → Type 0
-Left c = P.Left (start c .args .rules) (take (c .before .before .header .given .0 .0) (start c .args .buf .now)) (decodeAs (start c .args .rules) typed copyFail (start c .args .buf .now))
-
-left : (c : tie.After-frame) → Left c (copyFail .body) (copyFail .message) 5
-unfolding copyFail
-left c = begin _ typed copyFail _ (c .before .before .before .before .typed .ensures) (c .before .before .header .given .1)
+slice-aggregate-frame c = sym (ends typed _ _ (c .before .before .before .before .typed .ensures) (c .before .before .header .given .1))
 
 returns-2 : tie.Need-returns-2
 unfolding copyFail
-returns-2 c = off (left (c .before .before .before)) (ap (textRead 5) (sym (c .enum-told .given .1)) ∙ c .before .before .text .ensures)
-
-left-2 : (c : tie.After-known-told2) → Left (c .before .before .before .before) [] (λ _. R.copyFail (c .before .message .given .0 .0)) (c .before .message .given .0 .1 .0 .at)
-unfolding copyFail
-left-2 c = on (left (c .before .before .before .before)) (ap (textRead 5) (sym (c .before .message .given .1)) ∙ c .before .before .before .text .ensures)
+returns-2 c =
+    let f = c .before .before .before .before .before in
+    off (begin _ typed copyFail _ (f .before .before .typed .ensures) (f .header .given .1)) (ap (textRead 5) (sym (c .enum-told .given .1)) ∙ c .before .before .text .ensures)
 
 returns-3 : tie.Need-returns-3
-returns-3 c = done (left-2 (c .before)) (c .finished .ensures)
+unfolding copyFail
+returns-3 c =
+    let t = c .before .before in
+    let f = t .before .before .before .before .before in
+    done (on (begin _ typed copyFail _ (f .before .before .typed .ensures) (f .header .given .1)) (ap (textRead 5) (sym (t .message .given .1)) ∙ t .before .before .text .ensures)) (c .finished .ensures)
 
 pub copy-fail-spec : {M : Type 1} → statement M
 copy-fail-spec =

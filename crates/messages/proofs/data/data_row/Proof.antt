@@ -1,18 +1,9 @@
 -- `messages::data::data_row` meets its contract: at each point, what is left to read is what there was at first.
-use Prim.Native.Nat.{ℕ}
-use mathlib.Core.List.{List, [], _∷_}
 use mathlib.Core.Path.{ap, sym, _∙_}
 use borrow.Author.Needs.{needs}
-use lib.ListN.{take}
-use Rattle.protocol.specs.declared.Message.{Message}
-use Rattle.protocol.specs.Decode.{decodeAs}
-use Rattle.protocol.specs.Each.{Each}
-use Rattle.protocol.specs.Fields.{Field, Slot}
 use Rattle.protocol.specs.Kinds.{typed, dataRow}
-use Rattle.protocol.specs.Records as R
 use Rattle.codec.specs.Answers.{listedRead}
 use Rattle.envelope.specs.Steps.{refusalOf}
-use Rattle.envelope.proofs.Points as P
 use Rattle.envelope.proofs.Points.{on, off, done, begin, none, ends}
 use Rattle.messages.proofs.data.data_row.Statement.{statement}
 use Rattle.messages.proofs.data.data_row.Tie as tie
@@ -21,30 +12,23 @@ returns : tie.Need-returns
 unfolding dataRow
 returns c = c .unframed .ensures ∙ none _ typed dataRow (c .before .before .before .before .args .buf .now) (c .before .before .typed .ensures) (c .before .match .keys2)
 
--- a whole frame
-abbrev start : tie.After-frame → tie.Start
-start c = c .before .before .before .before .before .before
-
 slice-aggregate-frame : tie.Need-slice-aggregate-frame
-slice-aggregate-frame c = sym (ends typed _ (start c .args .buf .now) (c .before .before .before .before .typed .ensures) (c .before .before .header .given .1))
-
-abbrev Left : tie.After-frame → (xs : List Field) → (Each Slot xs → Message) → ℕ → Type 0
-Left c = P.Left (start c .args .rules) (take (c .before .before .header .given .0 .0) (start c .args .buf .now)) (decodeAs (start c .args .rules) typed dataRow (start c .args .buf .now))
-
-left : (c : tie.After-frame) → Left c (dataRow .body) (dataRow .message) 5
-unfolding dataRow
-left c = begin _ typed dataRow _ (c .before .before .before .before .typed .ensures) (c .before .before .header .given .1)
+slice-aggregate-frame c = sym (ends typed _ _ (c .before .before .before .before .typed .ensures) (c .before .before .header .given .1))
 
 returns-2 : tie.Need-returns-2
 unfolding dataRow
-returns-2 c = c .refused .ensures ∙ ap refusalOf (c .before .enum-told .given .1) ∙ off (left (c .before .before .before .before)) (ap listedRead (sym (c .before .enum-told .given .1)) ∙ c .before .before .before .values .ensures)
-
-left-2 : (c : tie.After-known-told2) → Left (c .before .before .before .before) [] (λ _. R.dataRow (c .before .listed .given .0 .0)) (c .before .listed .given .0 .1 .0 .at)
-unfolding dataRow
-left-2 c = on (left (c .before .before .before .before)) (ap listedRead (sym (c .before .listed .given .1)) ∙ c .before .before .before .values .ensures)
+returns-2 c =
+    let t = c .before in
+    let f = t .before .before .before .before .before in
+    c .refused .ensures ∙ ap refusalOf (t .enum-told .given .1)
+    ∙ off (begin _ typed dataRow _ (f .before .before .typed .ensures) (f .header .given .1)) (ap listedRead (sym (t .enum-told .given .1)) ∙ t .before .before .values .ensures)
 
 returns-3 : tie.Need-returns-3
-returns-3 c = done (left-2 (c .before)) (c .finished .ensures)
+unfolding dataRow
+returns-3 c =
+    let t = c .before .before in
+    let f = t .before .before .before .before .before in
+    done (on (begin _ typed dataRow _ (f .before .before .typed .ensures) (f .header .given .1)) (ap listedRead (sym (t .listed .given .1)) ∙ t .before .before .values .ensures)) (c .finished .ensures)
 
 pub data-row-spec : {M : Type 1} → statement M
 data-row-spec =
