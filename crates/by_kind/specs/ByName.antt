@@ -1,6 +1,7 @@
--- What an encoder wrote comes back under the names of its arguments: kind by kind, the encoder with its arguments, and beside it the record that decoding
--- gives, each field with the argument of its name. EncodeStatements (laws) says the round trip of contents, which are known by their places; here the
--- arguments alone are: which is which is read off the `ensures` line of the encoder, where `G.bind` and its like are applied by position.
+-- What an encoder wrote comes back under the names of its arguments: kind by kind, the encoder with its arguments, and beside it the record
+-- that decoding gives, each field with the argument of its name. EncodeStatements (laws) says the round trip of contents, which are known by
+-- their places; here the arguments alone are: which is which is read off the `ensures` line of the encoder, where `G.bind` and its like are
+-- applied by position.
 use Prim.Native.Nat.{ℕ, _≤_}
 use mathlib.Core.List.{List, _++_}
 use mathlib.Core.Option.{Option, some, none}
@@ -115,8 +116,8 @@ pub record Codec : Type 0 where
 abbrev pub theCodec : Codec
 theCodec = record { encode = theEncoder; decode = theDecoder; element = theElementCall }
 
--- what an encoder of the kind k wrote of what it was given, followed by any bytes, decodes, in every mode that has the kind, to a message for which there
--- is a record r with `Named`; and its own bytes are consumed
+-- what an encoder of the kind k wrote of what it was given, followed by any bytes, decodes, in every mode that has the kind, to a message for
+-- which there is a record r with `Named`; and its own bytes are consumed
 pub record ComesBack (codec : Codec) (k : Kind) (given : Option (Contents k)) (R : Type 0) (Named : Back → R → Type 0) : Type 0 where
   pub comes :
       (m : Mode) (out t : List ℕ) (n : ℕ) → IsIn m modes → IsIn k (m .kinds) → ofEncoded (codec .encode m k given out .answer) ≡ success tt n
@@ -146,7 +147,8 @@ pub record ByName (codec : Codec) : Type 0 where
       × (r .«target_type» ≡ «target_type»)
       × Text b (r .name) name)
   pub «close_complete» : ComesBack codec K.closeComplete G.closeComplete (Unit {0}) (Bare M.CloseComplete)
-  pub bind : («portal_name» «statement_name» : List ℕ) («parameter_format_codes» lengths : List ℤ) (joined : List ℕ) («result_column_format_codes» : List ℤ)
+  pub bind : («portal_name» «statement_name» : List ℕ) («parameter_format_codes» lengths : List ℤ) (joined : List ℕ)
+      («result_column_format_codes» : List ℤ)
       → Bytes «portal_name» → Bytes «statement_name» → All (Signed 2) «parameter_format_codes» → All (Signed 4) lengths → Bytes joined
       → All (Signed 2) «result_column_format_codes»
       → ComesBack codec K.bind

@@ -1,6 +1,6 @@
--- The tables of docs/FORMAT.md once more, as plain lines, to hold the table of kinds against: for each mode its number and how its frames are framed; for
--- each kind its name, type byte, smallest length, limit (L is 1,048,576, all others 8,192), and its body, field by field from left to right: the name that
--- the record has for it, and what stands on the wire.
+-- The tables of docs/FORMAT.md once more, as plain lines, to hold the table of kinds against: for each mode its number and how its frames are
+-- framed; for each kind its name, type byte, smallest length, limit (L is 1,048,576, all others 8,192), and its body, field by field from left
+-- to right: the name that the record has for it, and what stands on the wire.
 use Prim.Native.Char.{Char, code}
 use Prim.Native.Nat.{ℕ, _*_}
 use Prim.Native.String.{String}

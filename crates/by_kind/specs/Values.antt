@@ -14,8 +14,8 @@ use Rattle.laws.specs.Statements.{ElementCall}
 abbrev pub HasSecondForm : Kind → ℕ → Type 0
 HasSecondForm k l = ((k ≡ bind) × (l ≡ 1)) ⊎ ((k ≡ dataRow) × (l ≡ 0))
 
--- These are the lists of values; and of every frame that is accepted the second form hands back the empty start of the stand-in where kind and list are
--- others.
+-- These are the lists of values; and of every frame that is accepted the second form hands back the empty start of the stand-in where kind and
+-- list are others.
 pub record SecondForm (call : ElementCall) : Type 0 where
   pub lists : (m : Mode) → IsIn m modes → (k : Kind) → IsIn k (m .kinds) → (l : ℕ) → HasValues k l ↔ HasSecondForm k l
   pub others :

@@ -66,8 +66,8 @@ StandIns call =
     → found (k .body) (bodyStart (m .envelope)) c l n ≡ some (record { item = nullable; place = place; content = (own, tt) })
     → valueOr (frame (m .envelope) k c ++ t) stand (call rules (frame (m .envelope) k c ++ t) l n) ≡ ownOr stand own
 
--- 8. It hands back the empty start of the stand-in where the first form refuses or says need-more; and of every frame that is accepted where the list is
--- none of values. Crate by_kind says which kinds' lists are: Bind's list 1 and DataRow's list 0.
+-- 8. It hands back the empty start of the stand-in where the first form refuses or says need-more; and of every frame that is accepted where
+-- the list is none of values. Crate by_kind says which kinds' lists are: Bind's list 1 and DataRow's list 0.
 abbrev pub HasValues : Kind → ℕ → Type 0
 HasValues k l = listItem (k .body) l ≡ some nullable
 

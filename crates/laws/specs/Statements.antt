@@ -144,8 +144,8 @@ OneDecoder decode =
     (other : Decoder) → Complete other → NeedMore other → Refusals other
     → (rules : Rules) (s : List ℕ) → Bytes s → ofDecoded (other rules s) ≡ ofDecoded (decode rules s)
 
--- 11. Table. Each kind's smallest length is what its fields need at least, and no two kinds of a mode share what tells them. That the table has FORMAT.md's
--- lines is said in crate by_kind.
+-- 11. Table. Each kind's smallest length is what its fields need at least, and no two kinds of a mode share what tells them. That the table has
+-- FORMAT.md's lines is said in crate by_kind.
 pub record Table (table : List Mode) : Type 0 where
   pub smallest : (m : Mode) → IsIn m table → (k : Kind) → IsIn k (m .kinds) → k .smallest ≡ lengthOf (m .envelope) (leastOfEach least (k .body))
   pub apart : (m : Mode) → IsIn m table → (k h : Kind) → IsIn k (m .kinds) → IsIn h (m .kinds) → k .tag ≡ h .tag → k ≡ h

@@ -12,7 +12,7 @@ use Rattle.protocol.specs.Kinds.{Mode, modes, find}
 use Rattle.protocol.specs.Names.{nameOf, lettersOf}
 use Rattle.protocol.specs.Rules.{rulesOf}
 use Rattle.protocol.specs.Stream as Stream
-use Rattle.protocol.specs.Stream.{End, whole, needMore, refused, frame, stop, Framed, Stream, stepAt, streamFrom}
+use Rattle.protocol.specs.Stream.{End, whole, needMore, refused, frame, stop, FrameAt, Stream, stepAt, streamFrom}
 use Rattle.writers.specs.Writing.{write}
 use Rattle.listing.specs.declared.Left.the-variants as L
 use Rattle.listing.specs.declared.Left.{Left}
@@ -67,7 +67,7 @@ endOversize = lettersOf "end oversize 0" ++ newline
 
 -- ---- the whole
 
-abbrev pub frameLines : List Framed → List ℕ
+abbrev pub frameLines : List FrameAt → List ℕ
 frameLines [] = []
 frameLines (f ∷ fs) = frameLine (f .at) (f .message) (f .bytes) ++ frameLines fs
 

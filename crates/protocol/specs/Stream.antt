@@ -31,14 +31,14 @@ unfoldable pub stepAt : Rules → List ℕ → ℕ → Step
 stepAt rules s p = cond (leb (length s) p) (stop whole) (stepBy (decodeOf rules (drop p s)))
 
 -- a frame: where it begins, its message and its bytes
-pub record Framed : Type 0 where
+pub record FrameAt : Type 0 where
   pub at : ℕ
   pub message : Message
   pub bytes : ℕ
 
 -- the frames, the end, and where the unread frame begins
 pub record Stream : Type 0 where
-  pub frames : List Framed
+  pub frames : List FrameAt
   pub end : End
   pub at : ℕ
 

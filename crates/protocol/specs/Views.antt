@@ -28,13 +28,15 @@ pub record Shown (m : Message) : Type 0 where
   pub row : kindIn mode (view .kind .tag) ≡ some (view .kind)
   pub back : view .kind .message (view .slots) ≡ m
 
-abbrev is : {m : Message} (mode : Mode) (k : Kind) (slots : Each Slot (k .body)) → modeOf (rulesOf (mode .mode)) ≡ some mode → kindIn mode (k .tag) ≡ some k → k .message slots ≡ m → Shown m
+abbrev is : {m : Message} (mode : Mode) (k : Kind) (slots : Each Slot (k .body)) → modeOf (rulesOf (mode .mode)) ≡ some mode → kindIn mode (k .tag) ≡ some k
+    → k .message slots ≡ m → Shown m
 is mode k slots known row back = record { mode = mode; view = record { kind = k; slots = slots }; known = known; row = row; back = back }
 
 unfoldable pub shown : (m : Message) → Shown m
 unfolding the-table find modeOf kindIn
 shown (M.Parse m) = is frontend parse (m .name, (m .query, (m .«type_oids», tt))) refl refl refl
-shown (M.Bind m) = is frontend bind (m .«portal_name», (m .«statement_name», (m .«parameter_format_codes», (m .parameters, (m .«result_column_format_codes», tt))))) refl refl refl
+shown (M.Bind m) =
+    is frontend bind (m .«portal_name», (m .«statement_name», (m .«parameter_format_codes», (m .parameters, (m .«result_column_format_codes», tt))))) refl refl refl
 shown (M.Close m) = is frontend close (m .«target_type», (m .name, tt)) refl refl refl
 shown (M.Describe m) = is frontend describe (m .«target_type», (m .name, tt)) refl refl refl
 shown (M.Execute m) = is frontend execute (m .name, (m .«max_rows», tt)) refl refl refl
