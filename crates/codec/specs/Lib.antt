@@ -1,3 +1,3 @@
-pub mod Answers
+pub mod CursorRead
 pub mod Fixed
 pub mod Words

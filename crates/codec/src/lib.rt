@@ -8,7 +8,7 @@ ghost use Rattle.protocol.specs.Bytes.{numberAt, signedOf};
 ghost use Rattle.protocol.specs.Fields.{signedCount, text};
 ghost use Rattle.protocol.specs.Kinds.{formats, nullable, oids, values};
 ghost use Rattle.protocol.specs.Reading.{got, passItems, read, readAtom, readCount, readNumber, readRest, readValue};
-ghost use Rattle.codec.specs.Answers.{byteRead, halfRead, listedRead, passedRead, textRead, valueRead, wordRead};
+ghost use Rattle.codec.specs.CursorRead.{byteRead, halfRead, listedRead, passedRead, textRead, valueRead, wordRead};
 ghost use Rattle.codec.specs.Fixed.{readFixed};
 ghost use Rattle.codec.specs.Words.{WordsEnd};
 use protocol::List;

@@ -6,7 +6,7 @@ ghost use Rattle.protocol.specs.Elements.{elementOf};
 ghost use Rattle.protocol.specs.Kinds as K;
 ghost use Rattle.protocol.specs.Reading.{andThen, got, readItem};
 ghost use Rattle.protocol.specs.Rules.{rulesOf};
-ghost use Rattle.items.specs.Answers.{errorRead, fieldRead};
+ghost use Rattle.items.specs.ItemRead.{errorRead, fieldRead};
 ghost use Rattle.host_layout.specs.LaidOut.{elementOut, fieldNumbers, recordOut};
 ghost use Rattle.host_parts.specs.Reads.{errorFieldOut, fieldOut};
 use codec::Cursor;

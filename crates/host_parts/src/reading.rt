@@ -1,7 +1,7 @@
 // Values and whole rows, for a host.
 ghost use mathlib.Core.Path.{_≡_};
 ghost use Rattle.protocol.specs.Reading.{readValue};
-ghost use Rattle.codec.specs.Answers.{valueRead};
+ghost use Rattle.codec.specs.CursorRead.{valueRead};
 ghost use Rattle.host_parts.specs.Reads.{LaysRow, rowOut, valueOut};
 use codec::Value;
 use host_layout::shapes;

@@ -2,8 +2,8 @@
 ghost use mathlib.Core.Path.{_≡_};
 ghost use Rattle.protocol.specs.Kinds as K;
 ghost use Rattle.protocol.specs.Reading.{passItems, read, readItem};
-ghost use Rattle.codec.specs.Answers.{listedRead, passedRead};
-ghost use Rattle.items.specs.Answers.{errorRead};
+ghost use Rattle.codec.specs.CursorRead.{listedRead, passedRead};
+ghost use Rattle.items.specs.ItemRead.{errorRead};
 use codec::Byte;
 use codec::Cursor;
 use codec::Listed;

@@ -26,7 +26,6 @@ pub mod InOrder
 pub mod RowEntries
 pub mod Numbered
 pub mod RowAnswers
-pub mod Lent
 pub mod Steps
 pub mod Only
 pub mod Rejected

@@ -9,6 +9,5 @@ pub mod Arguments
 pub mod EncodeStatements
 pub mod ReaderStatements
 pub mod ListingStatements
-pub mod Lent
 pub mod Shortcuts
 pub mod Rejected

@@ -17,7 +17,7 @@ use Rattle.protocol.specs.Reading.{Read, got, bad}
 use Rattle.protocol.specs.Refusals.{cut}
 use Rattle.protocol.specs.Stream as Stream
 use Rattle.protocol.specs.Stream.{whole, needMore, refused, frame, stop}
-use Rattle.codec.specs.Answers.{byteRead, halfRead, listedRead, passedRead, textRead, valueRead, wordRead}
+use Rattle.codec.specs.CursorRead.{byteRead, halfRead, listedRead, passedRead, textRead, valueRead, wordRead}
 use Rattle.codec.specs.declared.Byte.the-variants as B
 use Rattle.codec.specs.declared.Byte.{Byte}
 use Rattle.codec.specs.declared.Half.the-variants as H
@@ -32,7 +32,7 @@ use Rattle.codec.specs.declared.Value.the-variants as Va
 use Rattle.codec.specs.declared.Value.{Value}
 use Rattle.codec.specs.declared.Word.the-variants as W
 use Rattle.codec.specs.declared.Word.{Word}
-use Rattle.items.specs.Answers.{errorRead, fieldRead}
+use Rattle.items.specs.ItemRead.{errorRead, fieldRead}
 use Rattle.items.specs.declared.data.FieldStep.the-variants as F
 use Rattle.items.specs.declared.data.FieldStep.{FieldStep}
 use Rattle.items.specs.declared.response.ErrorStep.the-variants as E

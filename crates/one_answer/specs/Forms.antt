@@ -14,10 +14,10 @@ use Rattle.protocol.specs.Encode.{Encodes}
 use Rattle.protocol.specs.Kinds.{Kind, Mode}
 use Rattle.protocol.specs.Reading.{got}
 use Rattle.protocol.specs.WellFormed.{Contents}
-use Rattle.codec.specs.Answers.{byteRead, halfRead, wordRead, textRead, valueRead, listedRead, passedRead}
+use Rattle.codec.specs.CursorRead.{byteRead, halfRead, wordRead, textRead, valueRead, listedRead, passedRead}
 use Rattle.host.specs.Asked.{Asked, Answers}
 use Rattle.host_parts.specs.Reads.{LaysRow}
-use Rattle.items.specs.Answers.{fieldRead, errorRead}
+use Rattle.items.specs.ItemRead.{fieldRead, errorRead}
 use Rattle.listing.specs.Listing.{Lines, Fills, stepOf}
 use Rattle.listing.specs.declared.Filled.{Filled}
 use Rattle.reader.specs.Row.{ReadsRow}

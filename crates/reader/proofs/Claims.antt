@@ -3,7 +3,7 @@ use Prim.Native.Nat.{ℕ}
 use mathlib.Core.List.{List}
 use mathlib.Core.Path.{_≡_}
 use Rattle.protocol.specs.Reading.{readNumber, readText, readValue}
-use Rattle.codec.specs.Answers.{byteRead, halfRead, wordRead, textRead, valueRead}
+use Rattle.codec.specs.CursorRead.{byteRead, halfRead, wordRead, textRead, valueRead}
 use Rattle.codec.specs.declared.Byte.{Byte}
 use Rattle.codec.specs.declared.Half.{Half}
 use Rattle.codec.specs.declared.Text.{Text}

@@ -2,7 +2,7 @@
 // reader apart and leaves the work to a function over a plain slice and a place, which calls the cursor.
 ghost use mathlib.Core.Path.{_≡_};
 ghost use Rattle.protocol.specs.Reading.{readNumber, readText, readValue};
-ghost use Rattle.codec.specs.Answers.{byteRead, halfRead, textRead, valueRead, wordRead};
+ghost use Rattle.codec.specs.CursorRead.{byteRead, halfRead, textRead, valueRead, wordRead};
 
 pub mod row;
 

@@ -1,7 +1,7 @@
 // By a frame reader: it is made over the frame and sent to a place, and reads there. What calls these needs no walk by hand.
 ghost use mathlib.Core.Path.{_≡_};
 ghost use Rattle.protocol.specs.Reading.{readNumber, readText, readValue};
-ghost use Rattle.codec.specs.Answers.{byteRead, halfRead, textRead, valueRead, wordRead};
+ghost use Rattle.codec.specs.CursorRead.{byteRead, halfRead, textRead, valueRead, wordRead};
 use codec::Byte;
 use codec::Half;
 use codec::Text;

@@ -3,7 +3,7 @@ use mathlib.Core.Path.{refl, ap, sym, _∙_}
 use borrow.Author.Needs.{needs}
 use Rattle.protocol.specs.Elements.{elementBy}
 use Rattle.protocol.specs.Kinds.{errorField}
-use Rattle.codec.specs.Answers.{passedRead}
+use Rattle.codec.specs.CursorRead.{passedRead}
 use Rattle.element.proofs.Reached.{reached}
 use Rattle.element.proofs.error_field_at.Statement.{statement}
 use Rattle.element.proofs.error_field_at.Tie as tie

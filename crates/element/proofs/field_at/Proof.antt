@@ -4,8 +4,8 @@ use borrow.Author.Needs.{needs}
 use Rattle.protocol.specs.declared.Element.the-variants as E
 use Rattle.protocol.specs.Elements.{elementBy}
 use Rattle.protocol.specs.Kinds.{rowField, rowFieldOf}
-use Rattle.codec.specs.Answers.{passedRead}
-use Rattle.items.specs.Answers.{fieldRead}
+use Rattle.codec.specs.CursorRead.{passedRead}
+use Rattle.items.specs.ItemRead.{fieldRead}
 use Rattle.element.proofs.Reached.{made}
 use Rattle.element.proofs.field_at.Statement.{statement}
 use Rattle.element.proofs.field_at.Tie as tie

@@ -7,7 +7,7 @@ use borrow.Author.Tests.{lt-ltb, le-ltb}
 use lib.ListN.{length}
 use Rattle.protocol.specs.Bytes.{signedOf}
 use Rattle.protocol.proofs.Numbers.{whole, not-whole}
-use Rattle.codec.specs.Answers.{wordRead}
+use Rattle.codec.specs.CursorRead.{wordRead}
 use Rattle.envelope.specs.Steps.{endOf, endIn}
 use Rattle.envelope.proofs.typed.Statement.{statement}
 use Rattle.envelope.proofs.typed.Tie as tie

@@ -5,7 +5,7 @@ use native.Mathlib.Nat.{mul-le-mul}
 use native.Mathlib.Omega.{arith}
 use borrow.Author.Needs.{needs}
 use lib.ListN.{length}
-use Rattle.codec.specs.Answers.{halfRead}
+use Rattle.codec.specs.CursorRead.{halfRead}
 use Rattle.protocol.specs.Reading.{got, readNumber}
 use Rattle.protocol.proofs.Numbers.{Whole, whole}
 use Rattle.codec.proofs.Lists.{count-short, count-negative, count-large, count-got}

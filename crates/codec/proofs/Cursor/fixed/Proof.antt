@@ -7,7 +7,7 @@ use lib.ListN.{length}
 use Rattle.protocol.specs.Fields.{signedCount}
 use Rattle.protocol.specs.Reading.{got, readCount}
 use Rattle.protocol.proofs.Counts.{Counted, counted-is}
-use Rattle.codec.specs.Answers.{listedRead}
+use Rattle.codec.specs.CursorRead.{listedRead}
 use Rattle.codec.specs.Fixed.{readFixed}
 use Rattle.codec.proofs.Cursor.fixed.Statement.{statement}
 use Rattle.codec.proofs.Cursor.fixed.Tie as tie

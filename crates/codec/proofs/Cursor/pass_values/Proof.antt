@@ -5,7 +5,7 @@ use Rattle.protocol.specs.declared.Rules.{Rules}
 use Rattle.protocol.specs.Kinds.{nullable}
 use Rattle.protocol.specs.Reading.{passItems}
 use Rattle.protocol.proofs.Counts.{pass-none, pass-refused, pass-turn}
-use Rattle.codec.specs.Answers.{passedRead}
+use Rattle.codec.specs.CursorRead.{passedRead}
 use Rattle.codec.proofs.Cursor.pass_values.Statement.{statement}
 use Rattle.codec.proofs.Cursor.pass_values.Tie as tie
 

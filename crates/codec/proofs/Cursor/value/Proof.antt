@@ -4,7 +4,7 @@ use mathlib.Core.Path.{_≡_, ap, sym, _∙_}
 use native.Mathlib.Omega.{arith}
 use borrow.Author.Needs.{needs}
 use lib.ListN.{length}
-use Rattle.codec.specs.Answers.{wordRead}
+use Rattle.codec.specs.CursorRead.{wordRead}
 use Rattle.protocol.specs.Reading.{got, readNumber}
 use Rattle.protocol.proofs.Numbers.{Whole, whole}
 use Rattle.codec.proofs.Values.{value-short, value-null, value-below, value-cut, value-got}

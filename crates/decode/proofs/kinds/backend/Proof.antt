@@ -4,7 +4,7 @@ use native.Mathlib.Omega.{arith}
 use borrow.Author.Needs.{needs}
 use Rattle.protocol.specs.Kinds.{find, kindIn, backend, the-table}
 use Rattle.protocol.proofs.Numbers.{Whole, whole, not-whole}
-use Rattle.codec.specs.Answers.{byteRead}
+use Rattle.codec.specs.CursorRead.{byteRead}
 use Rattle.decode.proofs.Choices.{cut, arm, unknown}
 use Rattle.decode.proofs.kinds.backend.Statement.{statement}
 use Rattle.decode.proofs.kinds.backend.Tie as tie

@@ -4,7 +4,7 @@ use native.Mathlib.Omega.{arith}
 use borrow.Author.Needs.{needs}
 use Rattle.protocol.specs.Kinds.{find, kindIn, cancel, the-table}
 use Rattle.protocol.proofs.Numbers.{Whole, whole, not-whole}
-use Rattle.codec.specs.Answers.{wordRead}
+use Rattle.codec.specs.CursorRead.{wordRead}
 use Rattle.decode.proofs.Choices.{cut, arm, unknown}
 use Rattle.decode.proofs.kinds.cancel.Statement.{statement}
 use Rattle.decode.proofs.kinds.cancel.Tie as tie

@@ -4,7 +4,7 @@ use native.Mathlib.Omega.{arith}
 use borrow.Author.Needs.{needs}
 use Rattle.protocol.specs.Kinds.{find, kindIn, bare, gssAnswer, gssAccept, gssRefuse, the-table}
 use Rattle.protocol.proofs.Numbers.{Whole, whole, not-whole}
-use Rattle.codec.specs.Answers.{byteRead}
+use Rattle.codec.specs.CursorRead.{byteRead}
 use Rattle.envelope.proofs.Points.{made-as}
 use Rattle.decode.proofs.Choices.{cut, arm, unknown, lone}
 use Rattle.decode.proofs.kinds.gss_answer.Statement.{statement}

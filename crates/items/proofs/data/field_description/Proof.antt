@@ -11,7 +11,7 @@ use Rattle.protocol.specs.Fields.{Atom, AtomSlot, signed, unsigned}
 use Rattle.protocol.specs.Kinds.{rowFieldOf}
 use Rattle.protocol.proofs.Basics.{back}
 use Rattle.protocol.proofs.OneByOne.{signed-got, signed-bad}
-use Rattle.codec.specs.Answers.{halfRead, textRead, wordRead}
+use Rattle.codec.specs.CursorRead.{halfRead, textRead, wordRead}
 use Rattle.items.proofs.Points as P
 use Rattle.items.proofs.Points.{wholeAt, begin, on, off}
 use Rattle.items.proofs.data.field_description.Statement.{statement}

@@ -2,7 +2,7 @@
 use mathlib.Core.Path.{_≡_, refl, ap, sym, _∙_}
 use borrow.Author.Needs.{needs}
 use Rattle.protocol.specs.Kinds.{rowField, rowFieldOf}
-use Rattle.items.specs.Answers.{fieldRead}
+use Rattle.items.specs.ItemRead.{fieldRead}
 use Rattle.items.proofs.Passing.{passed-by}
 use Rattle.items.proofs.data.pass_field.Statement.{statement}
 use Rattle.items.proofs.data.pass_field.Tie as tie

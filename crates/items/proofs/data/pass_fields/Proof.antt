@@ -5,7 +5,7 @@ use Rattle.protocol.specs.declared.Rules.{Rules}
 use Rattle.protocol.specs.Kinds.{rowField}
 use Rattle.protocol.specs.Reading.{passItems}
 use Rattle.protocol.proofs.Counts.{pass-none, pass-refused, pass-turn}
-use Rattle.codec.specs.Answers.{passedRead}
+use Rattle.codec.specs.CursorRead.{passedRead}
 use Rattle.items.proofs.data.pass_fields.Statement.{statement}
 use Rattle.items.proofs.data.pass_fields.Tie as tie
 

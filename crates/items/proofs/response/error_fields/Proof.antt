@@ -10,8 +10,8 @@ use Rattle.protocol.specs.Kinds.{errorField}
 use Rattle.protocol.specs.Reading.{got, readNumber, readText, endedFrom, readEnded}
 use Rattle.protocol.proofs.Ended.{text-grows, error-grows, error-item, error-bad, ended-cut, ended-zero, ended-bad, ended-more}
 use Rattle.protocol.proofs.Numbers.{Whole, whole, not-whole}
-use Rattle.codec.specs.Answers.{byteRead, textRead}
-use Rattle.items.specs.Answers.{outcomeRead}
+use Rattle.codec.specs.CursorRead.{byteRead, textRead}
+use Rattle.items.specs.ItemRead.{outcomeRead}
 use Rattle.items.proofs.response.error_fields.Statement.{statement}
 use Rattle.items.proofs.response.error_fields.Tie as tie
 

@@ -2,7 +2,7 @@
 use mathlib.Core.Path.{ap, sym, _∙_}
 use borrow.Author.Needs.{needs}
 use Rattle.protocol.specs.Kinds.{errorField}
-use Rattle.items.specs.Answers.{errorRead}
+use Rattle.items.specs.ItemRead.{errorRead}
 use Rattle.items.proofs.Passing.{passed-alone}
 use Rattle.items.proofs.response.pass_error_field.Statement.{statement}
 use Rattle.items.proofs.response.pass_error_field.Tie as tie

@@ -2,7 +2,7 @@
 use mathlib.Core.Path.{ap, sym, _∙_}
 use borrow.Author.Needs.{needs}
 use Rattle.protocol.specs.Kinds.{typed, copyFail}
-use Rattle.codec.specs.Answers.{textRead}
+use Rattle.codec.specs.CursorRead.{textRead}
 use Rattle.envelope.proofs.Points.{on, off, done, begin, none, ends}
 use Rattle.messages.proofs.copy.copy_fail.Statement.{statement}
 use Rattle.messages.proofs.copy.copy_fail.Tie as tie

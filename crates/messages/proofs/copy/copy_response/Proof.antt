@@ -11,7 +11,7 @@ use Rattle.protocol.specs.Each.{Each}
 use Rattle.protocol.specs.Fields.{Field, Slot}
 use Rattle.protocol.specs.Kinds.{typed, formats}
 use Rattle.protocol.proofs.OneByOne.{signed-got, signed-bad}
-use Rattle.codec.specs.Answers.{byteRead, listedRead}
+use Rattle.codec.specs.CursorRead.{byteRead, listedRead}
 use Rattle.protocol.proofs.Basics.{back}
 use Rattle.envelope.specs.Steps.{decodeMade, refusalOf}
 use Rattle.messages.specs.Shared.{copyFields, copyMessage}

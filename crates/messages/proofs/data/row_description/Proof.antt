@@ -2,7 +2,7 @@
 use mathlib.Core.Path.{ap, sym, _∙_}
 use borrow.Author.Needs.{needs}
 use Rattle.protocol.specs.Kinds.{typed, rowDescription}
-use Rattle.codec.specs.Answers.{listedRead}
+use Rattle.codec.specs.CursorRead.{listedRead}
 use Rattle.envelope.specs.Steps.{refusalOf}
 use Rattle.envelope.proofs.Points.{on, off, done, begin, none, ends}
 use Rattle.messages.proofs.data.row_description.Statement.{statement}

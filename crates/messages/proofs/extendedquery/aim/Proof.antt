@@ -9,7 +9,7 @@ use Rattle.protocol.specs.declared.Message.{Message}
 use Rattle.protocol.specs.Each.{Each}
 use Rattle.protocol.specs.Fields.{Field, Slot}
 use Rattle.protocol.specs.Kinds.{typed, string, targets}
-use Rattle.codec.specs.Answers.{byteRead, textRead}
+use Rattle.codec.specs.CursorRead.{byteRead, textRead}
 use Rattle.envelope.specs.Steps.{decodeMade}
 use Rattle.messages.specs.Shared.{aimFields, aimMessage}
 use Rattle.envelope.proofs.Points as P

@@ -10,7 +10,7 @@ use Rattle.protocol.specs.Each.{Each}
 use Rattle.protocol.specs.Fields.{Field, Slot}
 use Rattle.protocol.specs.Kinds.{typed, formats, string, values, bind}
 use Rattle.protocol.specs.Records as R
-use Rattle.codec.specs.Answers.{listedRead, textRead}
+use Rattle.codec.specs.CursorRead.{listedRead, textRead}
 use Rattle.envelope.specs.Steps.{refusalOf}
 use Rattle.envelope.proofs.Points as P
 use Rattle.envelope.proofs.Points.{on, off, done, begin, none, ends}

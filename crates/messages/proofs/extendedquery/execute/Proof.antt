@@ -13,7 +13,7 @@ use Rattle.protocol.specs.Fields.{Field, Slot}
 use Rattle.protocol.specs.Kinds.{typed, i32, execute}
 use Rattle.protocol.specs.Records as R
 use Rattle.protocol.proofs.OneByOne.{signed-got, signed-bad}
-use Rattle.codec.specs.Answers.{textRead, wordRead}
+use Rattle.codec.specs.CursorRead.{textRead, wordRead}
 use Rattle.protocol.proofs.Basics.{back}
 use Rattle.envelope.proofs.Points as P
 use Rattle.envelope.proofs.Points.{on, off, done, begin, none, ends}

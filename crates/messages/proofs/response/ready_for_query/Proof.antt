@@ -11,7 +11,7 @@ use Rattle.protocol.specs.Each.{Each}
 use Rattle.protocol.specs.Fields.{Field, Slot}
 use Rattle.protocol.specs.Kinds.{typed, statuses, readyForQuery}
 use Rattle.protocol.specs.Records as R
-use Rattle.codec.specs.Answers.{byteRead}
+use Rattle.codec.specs.CursorRead.{byteRead}
 use Rattle.envelope.proofs.Points as P
 use Rattle.envelope.proofs.Points.{on, off, done, begin, none, ends, one-got, one-not, one-bad}
 use Rattle.messages.proofs.response.ready_for_query.Statement.{statement}

@@ -19,8 +19,8 @@ use Rattle.host_parts.specs.Reads.{LaysRow, rowOut, rowRead}
 use Rattle.reader.specs.Row.{ofRow, ReadsRow, placesIn, startsOf, lengthsOf, over}
 use Rattle.reader.specs.declared.row.Row.the-variants as R
 use Rattle.reader.specs.declared.row.Row.{Row}
-use Rattle.laws.specs.Lent.{Lists, Lent}
+use Rattle.lent.specs.Lent.{Lists, Lent}
 use Rattle.laws.proofs.Answered.{encoded-unsuccessful, not-success}
 
 -- ---- encoders
 
