@@ -50,7 +50,7 @@ fn text(limit: usize, write: impl Fn(&[u8], &mut [u8]) -> Encoded) {
     assert_eq!(out, [0; 64]);
 }
 
-/// A list of so many elements: `most` are written, more are refusal 4 where the kind's limit does not leave room, and 10 past the count.
+/// A list: `most` elements are written; one more is refusal 4 where the kind's limit leaves no room for it, and more than a count can say are 10.
 fn list(most: usize, write: impl Fn(usize, &mut [u8]) -> Encoded) {
     let mut out = vec![0; LARGE];
     assert!(write(most, &mut out).is_ok());
