@@ -47,6 +47,7 @@ ofElement E.Null = success E.Null 0
 ofElement (E.Value s) = success (E.Value s) 0
 ofElement (E.Field d) = success (E.Field d) 0
 ofElement (E.ErrorField c s) = success (E.ErrorField c s) 0
+ofElement (E.Pair n v) = success (E.Pair n v) 0
 ofElement E.NeedMore = needsMore
 ofElement (E.Refused number place) = refusal number place
 

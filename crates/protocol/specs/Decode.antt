@@ -44,7 +44,7 @@ unfoldable pub typedBy : Option Kind → List ℕ → Header
 typedBy none s = refuse typeUnknown (tagPlace typed)
 typedBy (some k) s = cond (ltb (length s) 5) more (lengthBy k 1 5 s (signedOf 4 (numberAt 4 s 1)))
 
--- mode 2: length, code, body
+-- modes 2 and 5: length, code, body
 unfoldable pub untypedBy : Option Kind → List ℕ → Header
 untypedBy none s = refuse typeUnknown (tagPlace untyped)
 untypedBy (some k) s = lengthBy k 0 8 s (signedOf 4 (numberAt 4 s 0))

@@ -16,7 +16,7 @@ use Rattle.protocol.specs.declared.response.GssEncResponse.the-variants 
 use Rattle.protocol.specs.declared.response.SslResponse.{SslResponse}
 use Rattle.protocol.specs.declared.response.SslResponse.the-variants as Ssl
 use Rattle.protocol.specs.Fields.{ItemContent}
-use Rattle.protocol.specs.Kinds.{Kind, Mode, nullable, rowField, errorField, sslAccept, sslRefuse, gssAccept, gssRefuse}
+use Rattle.protocol.specs.Kinds.{Kind, Mode, nullable, rowField, errorField, pair, sslAccept, sslRefuse, gssAccept, gssRefuse}
 use Rattle.protocol.specs.Refusals.{lengthAboveLimit, outputTooShort, notRepresentable}
 use Rattle.protocol.specs.Rules.{rulesOf}
 use Rattle.protocol.specs.WellFormed.{Contents, bodyBytes, lengthOf, frame, allAble}
@@ -29,6 +29,10 @@ items xs = map (λ x. (x, tt)) xs
 
 abbrev pub oneBefore : {A : Type 0} → A → Option (List A) → Option (List A)
 oneBefore x xs = Option·map (λ ys. x ∷ ys) xs
+
+abbrev pub orNone : {A B : Type 0} → (A → Option B) → Option A → Option B
+orNone f none = none
+orNone f (some x) = f x
 
 -- values, from their lengths (-1 for NULL) and their joined bytes; none where a length is below -1, or where the lengths, NULL as
 -- 0, do not add up to the bytes
@@ -47,6 +51,22 @@ errorFieldsGiven [] [] (b ∷ bs) = none
 errorFieldsGiven [] (n ∷ ns) bs = none
 errorFieldsGiven (c ∷ cs) [] bs = none
 errorFieldsGiven (c ∷ cs) (n ∷ ns) bs = cond (leb n (length bs)) (oneBefore (c, (take n bs, tt)) (errorFieldsGiven cs ns (drop n bs))) none
+
+-- strings, from their lengths and their joined bytes; none where the lengths do not add up to the bytes
+unfoldable pub textsGiven : List ℕ → List ℕ → Option (List (List ℕ))
+textsGiven [] [] = some []
+textsGiven [] (b ∷ bs) = none
+textsGiven (n ∷ ns) bs = cond (leb n (length bs)) (oneBefore (take n bs) (textsGiven ns (drop n bs))) none
+
+-- strings that are a name and a value by turns; none where the last name has no value
+unfoldable pub byTurns : List (List ℕ) → Option (List (ItemContent pair))
+byTurns [] = some []
+byTurns (name ∷ []) = none
+byTurns (name ∷ value ∷ texts) = oneBefore (name, (value, tt)) (byTurns texts)
+
+-- start-up arguments, from the lengths of names and values by turns and the joined bytes
+unfoldable pub pairsGiven : List ℕ → List ℕ → Option (List (ItemContent pair))
+pairsGiven lengths joined = orNone byTurns (textsGiven lengths joined)
 
 -- a row's fields, each with its name in a run of bytes; none where a name reaches outside the run
 abbrev pub rowFieldGiven : FieldDescription → List ℕ → ItemContent rowField

@@ -135,6 +135,10 @@ rowField = record { atoms = rowFieldAtoms; element = λ s. E.Field (rowFieldOf s
 abbrev pub errorField : Item
 errorField = record { atoms = unsigned 1 ∷ text ∷ []; element = λ s. E.ErrorField (s .0) (s .1 .0) }
 
+-- a start-up argument: its name, its value
+abbrev pub pair : Item
+pair = record { atoms = text ∷ text ∷ []; element = λ s. E.Pair (s .0) (s .1 .0) }
+
 abbrev pub oids : Field
 oids = counted signedCount oid
 
@@ -149,6 +153,9 @@ rowFields = counted signedCount rowField
 
 abbrev pub errorFields : Field
 errorFields = ended errorField
+
+abbrev pub pairs : Field
+pairs = ended pair
 
 -- ---- frontend, mode 0
 
@@ -181,6 +188,12 @@ copyData = kind "CopyData" "d" 4 large 9 (theRest ∷ []) R.copyData
 
 unfoldable pub copyFail : Kind
 copyFail = kind "CopyFail" "f" 5 small 10 (string ∷ []) R.copyFail
+
+unfoldable pub query : Kind
+query = kind "Query" "Q" 5 small 34 (string ∷ []) R.query
+
+unfoldable pub terminate : Kind
+terminate = kind "Terminate" "X" 4 small 35 [] R.terminate
 
 -- ---- backend, mode 1
 
@@ -235,7 +248,22 @@ copyBothResponse = kind "CopyBothResponse" "W" 7 small 26 (i8 ∷ formats ∷ []
 unfoldable pub notificationResponse : Kind
 notificationResponse = kind "NotificationResponse" "A" 10 large 27 (i32 ∷ string ∷ string ∷ []) R.notificationResponse
 
--- ---- cancel request, mode 2: told by a code; the length counts itself, the code and the body
+unfoldable pub parameterStatus : Kind
+parameterStatus = kind "ParameterStatus" "S" 6 small 36 (string ∷ string ∷ []) R.parameterStatus
+
+unfoldable pub backendKeyData : Kind
+backendKeyData = kind "BackendKeyData" "K" 12 small 37 (i32 ∷ i32 ∷ []) R.backendKeyData
+
+-- ---- first packet, mode 5: told by a word after the length, which counts itself, the word and the body. Mode 2 has the cancel request alone
+
+unfoldable pub startup : Kind
+startup = row "Startup" 196608 9 small (31 ∷ []) (pairs ∷ []) R.startup
+
+unfoldable pub sslRequest : Kind
+sslRequest = row "SslRequest" 80877103 8 small (32 ∷ []) [] R.sslRequest
+
+unfoldable pub gssEncRequest : Kind
+gssEncRequest = row "GssEncRequest" 80877104 8 small (33 ∷ []) [] R.gssEncRequest
 
 unfoldable pub cancelRequest : Kind
 cancelRequest = row "CancelRequest" 80877102 16 small (28 ∷ []) (i32 ∷ i32 ∷ []) R.cancelRequest
@@ -266,7 +294,8 @@ frontend = record {
   mode = 0;
   envelope = typed;
   kinds =
-      parse ∷ bind ∷ close ∷ describe ∷ execute ∷ flush ∷ sync ∷ copyDone ∷ copyData ∷ copyFail ∷ [];
+      parse ∷ bind ∷ close ∷ describe ∷ execute ∷ flush ∷ sync ∷ copyDone ∷ copyData ∷ copyFail ∷ query
+      ∷ terminate ∷ [];
 }
 
 unfoldable pub backend : Mode
@@ -276,7 +305,8 @@ backend = record {
   kinds =
       parseComplete ∷ bindComplete ∷ closeComplete ∷ portalSuspended ∷ noData ∷ emptyQueryResponse ∷ copyDone
       ∷ rowDescription ∷ parameterDescription ∷ dataRow ∷ commandComplete ∷ readyForQuery ∷ errorResponse ∷ noticeResponse
-      ∷ copyInResponse ∷ copyOutResponse ∷ copyBothResponse ∷ notificationResponse ∷ copyData ∷ [];
+      ∷ copyInResponse ∷ copyOutResponse ∷ copyBothResponse ∷ notificationResponse ∷ copyData ∷ parameterStatus
+      ∷ backendKeyData ∷ [];
 }
 
 unfoldable pub cancel : Mode
@@ -288,12 +318,19 @@ tlsAnswer = record { mode = 3; envelope = bare; kinds = sslAccept ∷ sslRefuse 
 unfoldable pub gssAnswer : Mode
 gssAnswer = record { mode = 4; envelope = bare; kinds = gssAccept ∷ gssRefuse ∷ [] }
 
+unfoldable pub firstPacket : Mode
+firstPacket = record {
+  mode = 5;
+  envelope = untyped;
+  kinds = startup ∷ sslRequest ∷ gssEncRequest ∷ cancelRequest ∷ [];
+}
+
 abbrev pub modes : List Mode
-modes = frontend ∷ backend ∷ cancel ∷ tlsAnswer ∷ gssAnswer ∷ []
+modes = frontend ∷ backend ∷ cancel ∷ tlsAnswer ∷ gssAnswer ∷ firstPacket ∷ []
 
 -- the modes and their kinds, to open together: to unfold this is to unfold all of them
 unfoldable pub the-table : Unit {0}
-unfolding frontend backend cancel tlsAnswer gssAnswer parse bind close describe execute flush sync copyDone copyData copyFail parseComplete bindComplete closeComplete portalSuspended noData emptyQueryResponse rowDescription parameterDescription dataRow commandComplete readyForQuery errorResponse noticeResponse copyInResponse copyOutResponse copyBothResponse notificationResponse cancelRequest sslAccept sslRefuse gssAccept gssRefuse
+unfolding frontend backend cancel tlsAnswer gssAnswer firstPacket parse bind close describe execute flush sync copyDone copyData copyFail parseComplete bindComplete closeComplete portalSuspended noData emptyQueryResponse rowDescription parameterDescription dataRow commandComplete readyForQuery errorResponse noticeResponse copyInResponse copyOutResponse copyBothResponse notificationResponse cancelRequest sslAccept sslRefuse gssAccept gssRefuse startup sslRequest gssEncRequest query terminate parameterStatus backendKeyData
 the-table = tt
 
 -- ---- finding a row

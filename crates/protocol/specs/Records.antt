@@ -109,3 +109,24 @@ gssAccept = M.GssEncResponse Gss.Accept
 
 abbrev pub gssRefuse : Message
 gssRefuse = M.GssEncResponse Gss.Refuse
+
+abbrev pub startup : ListSlot → Message
+startup parameters = M.Startup (record { parameters = parameters })
+
+abbrev pub sslRequest : Message
+sslRequest = M.SslRequest
+
+abbrev pub gssEncRequest : Message
+gssEncRequest = M.GssEncRequest
+
+abbrev pub query : Span → Message
+query text = M.Query (record { query = text })
+
+abbrev pub terminate : Message
+terminate = M.Terminate
+
+abbrev pub parameterStatus : Span → Span → Message
+parameterStatus name value = M.ParameterStatus (record { name = name; value = value })
+
+abbrev pub backendKeyData : ℤ → ℤ → Message
+backendKeyData pid «secret_key» = M.BackendKeyData (record { pid = pid; «secret_key» = «secret_key» })

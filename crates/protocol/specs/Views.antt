@@ -13,7 +13,7 @@ use Rattle.protocol.specs.declared.response.GssEncResponse.the-variants 
 use Rattle.protocol.specs.declared.response.SslResponse.the-variants as Ssl
 use Rattle.protocol.specs.Each.{Each}
 use Rattle.protocol.specs.Fields.{Slot}
-use Rattle.protocol.specs.Kinds.{Kind, Mode, modes, find, modeOf, kindIn, the-table, frontend, backend, cancel, tlsAnswer, gssAnswer, parse, bind, close, describe, execute, flush, sync, copyDone, copyData, copyFail, parseComplete, bindComplete, closeComplete, portalSuspended, noData, emptyQueryResponse, rowDescription, parameterDescription, dataRow, commandComplete, readyForQuery, errorResponse, noticeResponse, copyInResponse, copyOutResponse, copyBothResponse, notificationResponse, cancelRequest, sslAccept, sslRefuse, gssAccept, gssRefuse}
+use Rattle.protocol.specs.Kinds.{Kind, Mode, modes, find, modeOf, kindIn, the-table, frontend, backend, cancel, tlsAnswer, gssAnswer, firstPacket, parse, bind, close, describe, execute, flush, sync, copyDone, copyData, copyFail, parseComplete, bindComplete, closeComplete, portalSuspended, noData, emptyQueryResponse, rowDescription, parameterDescription, dataRow, commandComplete, readyForQuery, errorResponse, noticeResponse, copyInResponse, copyOutResponse, copyBothResponse, notificationResponse, cancelRequest, sslAccept, sslRefuse, gssAccept, gssRefuse, startup, sslRequest, gssEncRequest, query, terminate, parameterStatus, backendKeyData}
 use Rattle.protocol.specs.Rules.{rulesOf}
 
 pub record View : Type 0 where
@@ -67,6 +67,13 @@ shown (M.SslResponse Ssl.Accept) = is tlsAnswer sslAccept tt refl refl refl
 shown (M.SslResponse Ssl.Refuse) = is tlsAnswer sslRefuse tt refl refl refl
 shown (M.GssEncResponse Gss.Accept) = is gssAnswer gssAccept tt refl refl refl
 shown (M.GssEncResponse Gss.Refuse) = is gssAnswer gssRefuse tt refl refl refl
+shown (M.Startup m) = is firstPacket startup (m .parameters, tt) refl refl refl
+shown M.SslRequest = is firstPacket sslRequest tt refl refl refl
+shown M.GssEncRequest = is firstPacket gssEncRequest tt refl refl refl
+shown (M.Query m) = is frontend query (m .query, tt) refl refl refl
+shown M.Terminate = is frontend terminate tt refl refl refl
+shown (M.ParameterStatus m) = is backend parameterStatus (m .name, (m .value, tt)) refl refl refl
+shown (M.BackendKeyData m) = is backend backendKeyData (m .pid, (m .«secret_key», tt)) refl refl refl
 
 unfoldable pub view : Message → View
 unfolding shown

@@ -39,6 +39,10 @@ pub const COPY_DATA: Bounds = Bounds(4, LARGE);
 
 pub const COPY_FAIL: Bounds = Bounds(5, SMALL);
 
+pub const QUERY: Bounds = Bounds(5, SMALL);
+
+pub const TERMINATE: Bounds = Bounds(4, SMALL);
+
 // ---- backend, mode 1; CopyDone and CopyData as above
 pub const PARSE_COMPLETE: Bounds = Bounds(4, SMALL);
 
@@ -74,5 +78,15 @@ pub const COPY_BOTH_RESPONSE: Bounds = Bounds(7, SMALL);
 
 pub const NOTIFICATION_RESPONSE: Bounds = Bounds(10, LARGE);
 
-// ---- cancel request, mode 2
+pub const PARAMETER_STATUS: Bounds = Bounds(6, SMALL);
+
+pub const BACKEND_KEY_DATA: Bounds = Bounds(12, SMALL);
+
+// ---- first packet, mode 5; the cancel request is mode 2 too
+pub const STARTUP: Bounds = Bounds(9, SMALL);
+
+pub const SSL_REQUEST: Bounds = Bounds(8, SMALL);
+
+pub const GSS_ENC_REQUEST: Bounds = Bounds(8, SMALL);
+
 pub const CANCEL_REQUEST: Bounds = Bounds(16, SMALL);

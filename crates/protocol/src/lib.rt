@@ -9,6 +9,9 @@ pub mod extendedquery;
 pub mod kinds;
 pub mod refusal;
 pub mod response;
+pub mod simplequery;
+pub mod startup;
+pub mod terminate;
 
 use cancel::CancelRequest;
 use copy::CopyBothResponse;
@@ -32,6 +35,10 @@ use response::NoticeResponse;
 use response::NotificationResponse;
 use response::ReadyForQuery;
 use response::SslResponse;
+use simplequery::Query;
+use startup::BackendKeyData;
+use startup::ParameterStatus;
+use startup::Startup;
 
 // A string, a value or a rest: its first byte, counted from the frame's first, and its length. A string's zero byte and a
 // value's length word are not part of it.
@@ -91,6 +98,13 @@ pub enum Message {
     CancelRequest(CancelRequest),
     SslResponse(SslResponse),
     GssEncResponse(GssEncResponse),
+    Startup(Startup),
+    SslRequest,
+    GssEncRequest,
+    Query(Query),
+    Terminate,
+    ParameterStatus(ParameterStatus),
+    BackendKeyData(BackendKeyData),
 }
 
 // What decoding answers: the record and the bytes consumed, need-more, or a refusal's number and place.
@@ -109,6 +123,8 @@ pub enum Element {
     Field(FieldDescription),
     // An error's field: its code and its string.
     ErrorField(u8, Span),
+    // A start-up argument: its name and its value.
+    Pair(Span, Span),
     NeedMore,
     Refused(u8, usize),
 }
