@@ -11,6 +11,9 @@ use messages::copy;
 use messages::data;
 use messages::extendedquery;
 use messages::response;
+use messages::simplequery;
+use messages::startup;
+use messages::terminate;
 use protocol::Decoded;
 use protocol::Message;
 use protocol::Rules;
@@ -45,6 +48,13 @@ use protocol::response::MESSAGE_TYPE_BYTE_NOTICE_RESPONSE;
 use protocol::response::MESSAGE_TYPE_BYTE_NOTIFICATION_RESPONSE;
 use protocol::response::MESSAGE_TYPE_BYTE_READY_FOR_QUERY;
 use protocol::response::SslResponse;
+use protocol::simplequery::MESSAGE_TYPE_BYTE_QUERY;
+use protocol::startup::GssEncRequest;
+use protocol::startup::MESSAGE_TYPE_BYTE_BACKEND_KEY_DATA;
+use protocol::startup::MESSAGE_TYPE_BYTE_PARAMETER_STATUS;
+use protocol::startup::SslRequest;
+use protocol::startup::Startup;
+use protocol::terminate::MESSAGE_TYPE_BYTE_TERMINATE;
 
 // Mode 0: a type byte of the frontend.
 pub fn frontend(rules: Rules, buf: &[u8]) -> Decoded
@@ -65,6 +75,8 @@ pub fn frontend(rules: Rules, buf: &[u8]) -> Decoded
         MESSAGE_TYPE_BYTE_COPY_DONE => copy::copy_done(rules, buf),
         MESSAGE_TYPE_BYTE_COPY_DATA => copy::copy_data(rules, buf),
         MESSAGE_TYPE_BYTE_COPY_FAIL => copy::copy_fail(rules, buf),
+        MESSAGE_TYPE_BYTE_QUERY => simplequery::query(rules, buf),
+        MESSAGE_TYPE_BYTE_TERMINATE => terminate::terminate(rules, buf),
         _ => Decoded::Refused(TYPE_UNKNOWN, 0),
     }
 }
@@ -97,6 +109,8 @@ pub fn backend(rules: Rules, buf: &[u8]) -> Decoded
         MESSAGE_TYPE_BYTE_COPY_BOTH_RESPONSE => copy::copy_both_response(rules, buf),
         MESSAGE_TYPE_BYTE_NOTIFICATION_RESPONSE => response::notification_response(rules, buf),
         MESSAGE_TYPE_BYTE_COPY_DATA => copy::copy_data(rules, buf),
+        MESSAGE_TYPE_BYTE_PARAMETER_STATUS => startup::parameter_status(rules, buf),
+        MESSAGE_TYPE_BYTE_BACKEND_KEY_DATA => startup::backend_key_data(rules, buf),
         _ => Decoded::Refused(TYPE_UNKNOWN, 0),
     }
 }
@@ -157,5 +171,22 @@ pub fn gss_answer(rules: Rules, buf: &[u8]) -> Decoded
             GssEncResponse::MESSAGE_LENGTH,
         ),
         _ => Decoded::Refused(TYPE_UNKNOWN, 0),
+    }
+}
+
+// Mode 5: the word after the length, which is looked at first.
+pub fn first_packet(rules: Rules, buf: &[u8]) -> Decoded
+    ensures { λ r. ⌜ r ≡ decodeIn rules K.firstPacket (now (buf .entry)) ⌝ }
+{
+    let c = Cursor { at: CODE_AT };
+    let Word::Is(code, _) = c.word(buf) else {
+        return Decoded::NeedMore;
+    };
+    match code {
+        Startup::PROTOCOL_VERSION_3_0 => startup::startup(rules, buf),
+        SslRequest::BODY_MAGIC_NUMBER => startup::ssl_request(rules, buf),
+        GssEncRequest::BODY_MAGIC_NUMBER => startup::gss_enc_request(rules, buf),
+        CancelRequest::CANCEL_REQUEST_CODE => cancel::cancel_request(rules, buf),
+        _ => Decoded::Refused(TYPE_UNKNOWN, CODE_AT),
     }
 }

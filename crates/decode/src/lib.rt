@@ -22,6 +22,7 @@ pub fn decode_by(rules: Rules, buf: &[u8]) -> Decoded
         2 => kinds::cancel(rules, buf),
         3 => kinds::tls_answer(rules, buf),
         4 => kinds::gss_answer(rules, buf),
+        5 => kinds::first_packet(rules, buf),
         _ => Decoded::Refused(MODE_UNKNOWN, 0),
     }
 }

@@ -18,9 +18,12 @@ use codec::signed16;
 use items::data::FieldStep;
 use items::data::field_description;
 use items::data::pass_fields;
+use items::ended::Item;
+use items::ended::pass_items;
 use items::response::ErrorStep;
 use items::response::error_field;
-use items::response::pass_error_fields;
+use items::startup::PairStep;
+use items::startup::pair;
 use list::OneList;
 use list::Sort;
 use list::list_of;
@@ -89,10 +92,22 @@ fn field_at(rules: Rules, frame: &[u8], start: usize, number: usize) -> Element
 fn error_field_at(rules: Rules, frame: &[u8], start: usize, number: usize) -> Element
     ensures { λ r. ⌜ r ≡ elementBy (K.errorField .element) (readItemAt rules K.errorField number (now (frame .entry)) start) ⌝ }
 {
-    match pass_error_fields(rules, frame, Cursor { at: start }, number) {
+    match pass_items(rules, frame, Cursor { at: start }, number, Item::ErrorField) {
         Passed::To(c) => match error_field(rules, frame, c) {
             ErrorStep::Is(code, string, _) => Element::ErrorField(code, string),
             ErrorStep::Cut(place) => Element::Refused(CUT, place),
+        },
+        Passed::Refused(number, place) => Element::Refused(number, place),
+    }
+}
+
+fn pair_at(rules: Rules, frame: &[u8], start: usize, number: usize) -> Element
+    ensures { λ r. ⌜ r ≡ elementBy (K.pair .element) (readItemAt rules K.pair number (now (frame .entry)) start) ⌝ }
+{
+    match pass_items(rules, frame, Cursor { at: start }, number, Item::Pair) {
+        Passed::To(c) => match pair(rules, frame, c) {
+            PairStep::Is(name, value, _) => Element::Pair(name, value),
+            PairStep::Cut(place) => Element::Refused(CUT, place),
         },
         Passed::Refused(number, place) => Element::Refused(number, place),
     }
@@ -109,6 +124,7 @@ fn item_at(rules: Rules, frame: &[u8], sort: Sort, start: usize, number: usize) 
         Sort::Value => value_at(rules, frame, start, number),
         Sort::Field => field_at(rules, frame, start, number),
         Sort::ErrorField => error_field_at(rules, frame, start, number),
+        Sort::Pair => pair_at(rules, frame, start, number),
     }
 }
 

@@ -15,6 +15,7 @@ pub enum Sort {
     Value,
     Field,
     ErrorField,
+    Pair,
 }
 
 // A list with the sort of its items, or that there is none.
@@ -62,6 +63,7 @@ pub fn list_of(message: Message, list: usize) -> OneList
         Message::CopyInResponse(m) => only(Sort::Format, m.column_formats, list),
         Message::CopyOutResponse(m) => only(Sort::Format, m.column_formats, list),
         Message::CopyBothResponse(m) => only(Sort::Format, m.column_formats, list),
+        Message::Startup(m) => only(Sort::Pair, m.parameters, list),
         _ => OneList::NoList,
     }
 }

@@ -42,9 +42,16 @@ fn record(message: Message, n: usize) -> [usize; 16]
         Message::CopyOutResponse(m) => shapes::copy(25, n, m.format, m.column_formats),
         Message::CopyBothResponse(m) => shapes::copy(26, n, m.format, m.column_formats),
         Message::NotificationResponse(m) => shapes::notification(n, m),
-        Message::CancelRequest(m) => shapes::cancel(n, m),
+        Message::CancelRequest(m) => shapes::key(28, n, m.pid, m.secret_key),
         Message::SslResponse(answer) => shapes::one_number(29, n, ssl_number(answer)),
         Message::GssEncResponse(answer) => shapes::one_number(30, n, gss_number(answer)),
+        Message::Startup(m) => shapes::one_list(31, n, m.parameters),
+        Message::SslRequest => shapes::none(32, n),
+        Message::GssEncRequest => shapes::none(33, n),
+        Message::Query(m) => shapes::one_span(34, n, m.query),
+        Message::Terminate => shapes::none(35, n),
+        Message::ParameterStatus(m) => shapes::two_spans(36, n, m.name, m.value),
+        Message::BackendKeyData(m) => shapes::key(37, n, m.pid, m.secret_key),
     }
 }
 

@@ -6,7 +6,6 @@ ghost use Rattle.host_layout.specs.LaidOut.{list, needMoreOut, numbersOf
 use crate::bits::bits;
 use protocol::List;
 use protocol::Span;
-use protocol::cancel::CancelRequest;
 use protocol::extendedquery::Bind;
 use protocol::extendedquery::Execute;
 use protocol::extendedquery::Parse;
@@ -57,6 +56,30 @@ pub fn one_span(kind: usize, n: usize, s: Span) -> [usize; 16]
     ensures { λ r. ⌜ r ≡ recordOut n (kind ∷ span s) ⌝ }
 {
     [0, 0, 0, n, kind, s.start, s.len, 0, 0, 0, 0, 0, 0, 0, 0, 0]
+}
+
+// A name and a value: a parameter's status, a start-up argument.
+pub fn two_spans(kind: usize, n: usize, name: Span, value: Span) -> [usize; 16]
+    ensures { λ r. ⌜ r ≡ recordOut n (kind ∷ span name ++ span value) ⌝ }
+{
+    [
+        0,
+        0,
+        0,
+        n,
+        kind,
+        name.start,
+        name.len,
+        value.start,
+        value.len,
+        0,
+        0,
+        0,
+        0,
+        0,
+        0,
+        0,
+    ]
 }
 
 pub fn one_list(kind: usize, n: usize, l: List) -> [usize; 16]
@@ -236,10 +259,11 @@ pub fn notification(n: usize, m: NotificationResponse) -> [usize; 16]
     ]
 }
 
-pub fn cancel(n: usize, m: CancelRequest) -> [usize; 16]
-    ensures { λ r. ⌜ r ≡ recordOut n (numbersOf (M.CancelRequest m)) ⌝ }
+// A request to cancel, and the key for it.
+pub fn key(kind: usize, n: usize, pid: i32, secret_key: i32) -> [usize; 16]
+    ensures { λ r. ⌜ r ≡ recordOut n (kind ∷ signed pid ++ signed «secret_key») ⌝ }
 {
-    let pid = bits(m.pid);
-    let secret_key = bits(m.secret_key);
-    [0, 0, 0, n, 28, pid, secret_key, 0, 0, 0, 0, 0, 0, 0, 0, 0]
+    let pid = bits(pid);
+    let secret_key = bits(secret_key);
+    [0, 0, 0, n, kind, pid, secret_key, 0, 0, 0, 0, 0, 0, 0, 0, 0]
 }

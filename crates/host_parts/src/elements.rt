@@ -6,9 +6,9 @@ ghost use Rattle.protocol.specs.Elements.{elementOf};
 ghost use Rattle.protocol.specs.Kinds as K;
 ghost use Rattle.protocol.specs.Reading.{andThen, got, readItem};
 ghost use Rattle.protocol.specs.Rules.{rulesOf};
-ghost use Rattle.items.specs.ItemRead.{errorRead, fieldRead};
+ghost use Rattle.items.specs.ItemRead.{errorRead, fieldRead, pairRead};
 ghost use Rattle.host_layout.specs.LaidOut.{elementOut, fieldNumbers, recordOut};
-ghost use Rattle.host_parts.specs.Reads.{errorFieldOut, fieldOut};
+ghost use Rattle.host_parts.specs.Reads.{errorFieldOut, fieldOut, pairOut};
 use codec::Cursor;
 use host_layout::bits::bits;
 use host_layout::shapes;
@@ -16,6 +16,8 @@ use items::data::FieldStep;
 use items::data::field_description;
 use items::response::ErrorStep;
 use items::response::error_field;
+use items::startup::PairStep;
+use items::startup::pair;
 use protocol::Element;
 use protocol::data::FieldDescription;
 use protocol::refusal::CUT;
@@ -67,6 +69,7 @@ fn laid_out(element: Element) -> [usize; 16]
         Element::Value(value) => shapes::one_span(4, 0, value),
         Element::Field(d) => field(0, d),
         Element::ErrorField(code, text) => shapes::target(6, 0, code, text),
+        Element::Pair(name, value) => shapes::two_spans(7, 0, name, value),
         Element::NeedMore => shapes::need_more(),
         Element::Refused(number, place) => shapes::refused(number, place),
     }
@@ -118,4 +121,21 @@ pub extern "C" fn tusweram_error_field(frame: &[u8], at: usize, out: &mut [usize
     ensures { λ _. ⌜ now (out .exit) ≡ errorFieldOut (readItem (rulesOf 1) K.errorField (now (frame .entry)) at) ⌝ }
 {
     *out = error_numbers(error_field(rules_of(1), frame, Cursor { at }));
+}
+
+fn pair_numbers(step: PairStep) -> [usize; 16]
+    ensures { λ r. ⌜ r ≡ pairOut (pairRead step) ⌝ }
+{
+    match step {
+        PairStep::Is(name, value, next) => shapes::two_spans(7, next.at, name, value),
+        PairStep::Cut(place) => shapes::refused(CUT, place),
+    }
+}
+
+// The start-up argument at a place of a frame, with the next place.
+#[no_mangle]
+pub extern "C" fn tusweram_pair(frame: &[u8], at: usize, out: &mut [usize; 16])
+    ensures { λ _. ⌜ now (out .exit) ≡ pairOut (readItem (rulesOf 5) K.pair (now (frame .entry)) at) ⌝ }
+{
+    *out = pair_numbers(pair(rules_of(5), frame, Cursor { at }));
 }

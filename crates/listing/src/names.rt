@@ -47,6 +47,13 @@ fn name_of(message: Message) -> Name
         Message::CancelRequest(_) => Name { at: 327, len: 13 },
         Message::SslResponse(_) => Name { at: 341, len: 11 },
         Message::GssEncResponse(_) => Name { at: 353, len: 14 },
+        Message::Startup(_) => Name { at: 368, len: 7 },
+        Message::SslRequest => Name { at: 376, len: 10 },
+        Message::GssEncRequest => Name { at: 387, len: 13 },
+        Message::Query(_) => Name { at: 401, len: 5 },
+        Message::Terminate => Name { at: 407, len: 9 },
+        Message::ParameterStatus(_) => Name { at: 417, len: 15 },
+        Message::BackendKeyData(_) => Name { at: 433, len: 14 },
     }
 }
 
@@ -62,7 +69,7 @@ pub fn put_name(out: &mut [u8], at: usize, message: Message) -> usize
     put_part(
         out,
         at,
-        b"Parse Bind Close Describe Execute Flush Sync CopyDone CopyData CopyFail ParseComplete BindComplete CloseComplete PortalSuspended NoData EmptyQueryResponse RowDescription ParameterDescription DataRow CommandComplete ReadyForQuery ErrorResponse NoticeResponse CopyInResponse CopyOutResponse CopyBothResponse NotificationResponse CancelRequest SslResponse GssEncResponse ",
+        b"Parse Bind Close Describe Execute Flush Sync CopyDone CopyData CopyFail ParseComplete BindComplete CloseComplete PortalSuspended NoData EmptyQueryResponse RowDescription ParameterDescription DataRow CommandComplete ReadyForQuery ErrorResponse NoticeResponse CopyInResponse CopyOutResponse CopyBothResponse NotificationResponse CancelRequest SslResponse GssEncResponse Startup SslRequest GssEncRequest Query Terminate ParameterStatus BackendKeyData ",
         start,
         len,
     )

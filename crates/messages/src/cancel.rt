@@ -1,4 +1,4 @@
-// The request to cancel, mode 2, as in cancel.rs.
+// The request to cancel, modes 2 and 5, as in cancel.rs.
 ghost use mathlib.Core.Path.{_≡_};
 ghost use Rattle.protocol.specs.Decode.{decodeAs};
 ghost use Rattle.protocol.specs.Kinds as K;

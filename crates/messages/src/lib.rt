@@ -5,3 +5,6 @@ pub mod copy;
 pub mod data;
 pub mod extendedquery;
 pub mod response;
+pub mod simplequery;
+pub mod startup;
+pub mod terminate;

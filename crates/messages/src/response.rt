@@ -15,7 +15,8 @@ use envelope::finished;
 use envelope::refused;
 use envelope::typed;
 use envelope::unframed;
-use items::response::error_fields;
+use items::ended::Item;
+use items::ended::items;
 use protocol::Decoded;
 use protocol::Message;
 use protocol::Rules;
@@ -81,7 +82,7 @@ pub fn error_response(rules: Rules, buf: &[u8]) -> Decoded
         return unframed(header);
     };
     let frame = &buf[..end];
-    let listed = error_fields(rules, frame, Cursor { at: TYPED_BODY });
+    let listed = items(rules, frame, Cursor { at: TYPED_BODY }, Item::ErrorField);
     let Listed::Is(fields, c) = listed else {
         return refused(listed);
     };
@@ -96,7 +97,7 @@ pub fn notice_response(rules: Rules, buf: &[u8]) -> Decoded
         return unframed(header);
     };
     let frame = &buf[..end];
-    let listed = error_fields(rules, frame, Cursor { at: TYPED_BODY });
+    let listed = items(rules, frame, Cursor { at: TYPED_BODY }, Item::ErrorField);
     let Listed::Is(fields, c) = listed else {
         return refused(listed);
     };

@@ -12,8 +12,8 @@ use Rattle.protocol.specs.declared.Rules.{Rules}
 use Rattle.protocol.specs.declared.Span.{Span}
 use Rattle.protocol.specs.Each.{Each}
 use Rattle.protocol.specs.Fields.{AtomSlot, Item}
-use Rattle.protocol.specs.Kinds.{errorField}
-use Rattle.protocol.specs.Reading.{Read, got, bad, andThen, readNumber, textAt, readText, zeroIn, readItem, endedFrom}
+use Rattle.protocol.specs.Kinds.{errorField, pair}
+use Rattle.protocol.specs.Reading.{Read, got, bad, andThen, readNumber, textAt, readText, zeroIn, readItem, passItems, endedFrom}
 use Rattle.protocol.specs.Refusals.{cut}
 use Rattle.protocol.proofs.Basics.{bad-got}
 use Rattle.protocol.proofs.Numbers.{whole}
@@ -57,13 +57,33 @@ module _ (rules : Rules) (i : Item) (f : List ℕ) where
         unfolding endedFrom
         ended-zero h = sym (turn ∙ rw (← e, eq-eqb b 0 h) refl)
 
-        pub ended-bad : (b ≡ 0 → ⊥) → (k x : ℕ) → bad k x ≡ readItem rules i f p → bad k x ≡ endedFrom rules i (length f) f p n
-        unfolding endedFrom
-        ended-bad h k x r = sym (turn ∙ rw (← e, ne-eqb b 0 h, ← r) refl)
+        pub ended-bad : (b ≡ 0 → ⊥) → (k x : ℕ) → bad k x ≡ passItems rules i 1 f p → bad k x ≡ endedFrom rules i (length f) f p n
+        unfolding endedFrom passItems
+        ended-bad h k x r = sym (turn ∙ rw (← e, ne-eqb b 0 h) (by (readItem rules i f p) r))
+          where
+            by : (m : Read (Each AtomSlot (i .atoms))) → bad k x ≡ andThen m (λ s q. passItems rules i 0 f q) → andThen m (λ s e. endedFrom rules i (length f) f e (suc n)) ≡ bad k x
+            by (got s q) r = absurd (bad-got r)
+            by (bad c y) r =
+                let number : k ≡ c = cc in
+                let place : x ≡ y = cc in
+                rw (number, place) refl
 
-        pub ended-more : (b ≡ 0 → ⊥) → (s : Each AtomSlot (i .atoms)) (x : ℕ) → got s x ≡ readItem rules i f p → endedFrom rules i (length f) f x (suc n) ≡ endedFrom rules i (length f) f p n
-        unfolding endedFrom
-        ended-more h s x r = sym (turn ∙ rw (← e, ne-eqb b 0 h, ← r) refl)
+        pub ended-more : (b ≡ 0 → ⊥) → (x : ℕ) → got tt x ≡ passItems rules i 1 f p → endedFrom rules i (length f) f x (suc n) ≡ endedFrom rules i (length f) f p n
+        unfolding endedFrom passItems
+        ended-more h x r = sym (turn ∙ rw (← e, ne-eqb b 0 h) (by (readItem rules i f p) r))
+          where
+            by : (m : Read (Each AtomSlot (i .atoms))) → got tt x ≡ andThen m (λ s q. passItems rules i 0 f q) → andThen m (λ s e. endedFrom rules i (length f) f e (suc n)) ≡ endedFrom rules i (length f) f x (suc n)
+            by (got s q) r = let same : x ≡ q = cc in rw same refl
+            by (bad c y) r = absurd (bad-got (sym r))
+
+    -- past an item is further on
+    pub passed-grows : (p x : ℕ) → got tt x ≡ passItems rules i 1 f p → p < x
+    unfolding passItems
+    passed-grows p x r = by (readItem rules i f p) refl r
+      where
+        by : (m : Read (Each AtomSlot (i .atoms))) → readItem rules i f p ≡ m → got tt x ≡ andThen m (λ s q. passItems rules i 0 f q) → p < x
+        by (got s q) e r = let same : x ≡ q = cc in rw same (grows p q s e)
+        by (bad c y) e r = absurd (bad-got (sym r))
 
 -- a string takes at least its zero byte
 text-by : (z : Option ℕ) (p e : ℕ) (s : Span) → textAt p z ≡ got s e → p < e
@@ -71,7 +91,7 @@ unfolding textAt
 text-by none p e s r = absurd (bad-got r)
 text-by (some n) p e s r = let q : p + n + 1 ≡ e = cc in omega arith
 
-pub text-grows : (f : List ℕ) (p e : ℕ) (s : Span) → readText f p ≡ got s e → p < e
+text-grows : (f : List ℕ) (p e : ℕ) (s : Span) → readText f p ≡ got s e → p < e
 unfolding readText
 text-grows f p e s r = text-by (zeroIn (drop p f)) p e s r
 
@@ -91,9 +111,16 @@ error-grows rules f p e s r = number (readNumber 1 f p) refl r
     number (got b q) m r = string b q m (readText f q) refl r
     number (bad k x) m r = absurd (bad-got r)
 
-module _ (rules : Rules) (f : List ℕ) (p b q : ℕ) (e : got b q ≡ readNumber 1 f p) where
-  pub error-item : (t : Span) (x : ℕ) → got t x ≡ readText f q → got (b, (t, tt)) x ≡ readItem rules errorField f p
-  error-item t x h = rw (← e, ← h) refl
+-- a start-up argument is two strings
+pub pair-grows : (rules : Rules) (f : List ℕ) → Grows rules pair f
+pair-grows rules f p e s r = name (readText f p) refl r
+  where
+    value : (n : Span) (q : ℕ) → readText f p ≡ got n q → (t : Read Span) → readText f q ≡ t → andThen (andThen t (λ s q. got (s, tt) q)) (λ ss e. got (n, ss) e) ≡ got s e → p < e
+    value n q m (got t x) h r =
+        let z : x ≡ e = cc in
+        omega (arith, text-grows f p q n m, text-grows f q x t h)
+    value n q m (bad k x) h r = absurd (bad-got r)
 
-  pub error-bad : (k x : ℕ) → bad k x ≡ readText f q → bad k x ≡ readItem rules errorField f p
-  error-bad k x h = rw (← e, ← h) refl
+    name : (m : Read Span) → readText f p ≡ m → andThen m (λ n q. andThen (andThen (readText f q) (λ s q. got (s, tt) q)) (λ ss e. got (n, ss) e)) ≡ got s e → p < e
+    name (got n q) m r = value n q m (readText f q) refl r
+    name (bad k x) m r = absurd (bad-got r)
