@@ -21,14 +21,14 @@ returns-2 c =
     let t = c .before in
     let f = t .before .before .before .before .before in
     c .refused .ensures ∙ ap refusalOf (t .enum-told .given .1)
-    ∙ off (begin _ typed errorResponse _ (f .before .before .typed .ensures) (f .header .given .1)) (ap listedRead (sym (t .enum-told .given .1)) ∙ t .before .before .error-fields .ensures)
+    ∙ off (begin _ typed errorResponse _ (f .before .before .typed .ensures) (f .header .given .1)) (ap listedRead (sym (t .enum-told .given .1)) ∙ t .before .before .items .ensures)
 
 returns-3 : tie.Need-returns-3
 unfolding errorResponse
 returns-3 c =
     let t = c .before .before in
     let f = t .before .before .before .before .before in
-    done (on (begin _ typed errorResponse _ (f .before .before .typed .ensures) (f .header .given .1)) (ap listedRead (sym (t .listed .given .1)) ∙ t .before .before .error-fields .ensures)) (c .finished .ensures)
+    done (on (begin _ typed errorResponse _ (f .before .before .typed .ensures) (f .header .given .1)) (ap listedRead (sym (t .listed .given .1)) ∙ t .before .before .items .ensures)) (c .finished .ensures)
 
 pub error-response-spec : {M : Type 1} → statement M
 error-response-spec =
