@@ -113,6 +113,7 @@ module _ (f : List ℕ) where
   fits-sort S.Value x h = tt
   fits-sort S.Field x h = tt
   fits-sort S.ErrorField x h = tt
+  fits-sort S.Pair x h = tt
 
   fits-varied : (sort : Sort) (x : ListSlot) → T (varies (itemOf sort .atoms)) → FitsSort f x sort
   fits-varied S.Oid x h = absurd h
@@ -120,6 +121,7 @@ module _ (f : List ℕ) where
   fits-varied S.Value x h = tt
   fits-varied S.Field x h = tt
   fits-varied S.ErrorField x h = tt
+  fits-varied S.Pair x h = tt
 
   module _ (sort : Sort) (x : ListSlot) where
     found-fits : (xs : List Field) (l : ℕ) (s : Each Slot xs) → EndedVary xs → ListFits xs l s → some (record { item = itemOf sort; list = x }) ≡ listIn xs l s → FitsSort f x sort

@@ -48,3 +48,4 @@ fits-at f l n list sort e h w = by sort (rw e at w)
     by S.Value w = tt
     by S.Field w = tt
     by S.ErrorField w = tt
+    by S.Pair w = tt

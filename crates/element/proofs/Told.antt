@@ -11,6 +11,16 @@ use Rattle.element.specs.declared.list.Sort.the-variants as S
 use Rattle.element.specs.declared.list.Sort.{Sort}
 use Rattle.element.specs.OneList.{itemOf, listedOf}
 
+-- the sort whose items begin with a string, by what follows it
+afterText : List Atom → Sort
+afterText [] = S.Field
+afterText (unsigned w ∷ xs) = S.Field
+afterText (signed w ∷ xs) = S.Field
+afterText (oneOf bs ∷ xs) = S.Field
+afterText (text ∷ xs) = S.Pair
+afterText (value ∷ xs) = S.Field
+afterText (rest ∷ xs) = S.Field
+
 -- the sort whose items have these atoms
 sortBy : List Atom → Sort
 sortBy [] = S.Oid
@@ -18,17 +28,18 @@ sortBy (unsigned w ∷ []) = S.Oid
 sortBy (unsigned w ∷ x ∷ xs) = S.ErrorField
 sortBy (signed w ∷ xs) = S.Format
 sortBy (oneOf bs ∷ xs) = S.Oid
-sortBy (text ∷ xs) = S.Field
+sortBy (text ∷ xs) = afterText xs
 sortBy (value ∷ xs) = S.Value
 sortBy (rest ∷ xs) = S.Oid
 
 sort-back : (sort : Sort) → sortBy (itemOf sort .atoms) ≡ sort
-unfolding sortBy
+unfolding sortBy afterText
 sort-back S.Oid = refl
 sort-back S.Format = refl
 sort-back S.Value = refl
 sort-back S.Field = refl
 sort-back S.ErrorField = refl
+sort-back S.Pair = refl
 
 oneListBy : Option Listed → OneList
 oneListBy none = L.NoList

@@ -6,7 +6,7 @@ use lib.ListN.{length}
 use Rattle.protocol.specs.declared.List.{List as ListSlot}
 use Rattle.protocol.specs.Elements.{Listed}
 use Rattle.protocol.specs.Fields.{Item}
-use Rattle.protocol.specs.Kinds.{oid, format, nullable, rowField, errorField}
+use Rattle.protocol.specs.Kinds.{oid, format, nullable, rowField, errorField, pair}
 use Rattle.element.specs.declared.list.OneList.the-variants as L
 use Rattle.element.specs.declared.list.OneList.{OneList}
 use Rattle.element.specs.declared.list.Sort.the-variants as S
@@ -18,6 +18,7 @@ itemOf S.Format = format
 itemOf S.Value = nullable
 itemOf S.Field = rowField
 itemOf S.ErrorField = errorField
+itemOf S.Pair = pair
 
 abbrev pub listedOf : OneList → Option Listed
 listedOf (L.Is sort list) = some (record { item = itemOf sort; list = list })
@@ -35,6 +36,7 @@ FitsAt f start n S.Format = start + n * 2 + 2 ≤ length f
 FitsAt f start n S.Value = Unit {0}
 FitsAt f start n S.Field = Unit {0}
 FitsAt f start n S.ErrorField = Unit {0}
+FitsAt f start n S.Pair = Unit {0}
 
 abbrev pub FitsSort : List ℕ → ListSlot → Sort → Type 0
 FitsSort f l S.Oid = l .start + l .count * 4 ≤ length f
@@ -42,6 +44,7 @@ FitsSort f l S.Format = l .start + l .count * 2 ≤ length f
 FitsSort f l S.Value = Unit {0}
 FitsSort f l S.Field = Unit {0}
 FitsSort f l S.ErrorField = Unit {0}
+FitsSort f l S.Pair = Unit {0}
 
 abbrev pub Fits : List ℕ → OneList → Type 0
 Fits f (L.Is sort list) = FitsSort f list sort

@@ -103,6 +103,7 @@ elementOut E.Null = recordOut 0 (3 ∷ [])
 elementOut (E.Value s) = recordOut 0 (4 ∷ span s)
 elementOut (E.Field d) = recordOut 0 (5 ∷ fieldNumbers d)
 elementOut (E.ErrorField c s) = recordOut 0 (6 ∷ c ∷ span s)
+elementOut (E.Pair n v) = recordOut 0 (7 ∷ span n ++ span v)
 elementOut E.NeedMore = needMoreOut 16
 elementOut (E.Refused number place) = refusedOut 16 number place
 

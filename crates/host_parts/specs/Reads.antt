@@ -10,7 +10,7 @@ use Rattle.protocol.specs.declared.data.FieldDescription.{FieldDescription}
 use Rattle.protocol.specs.Decode.{decodeOf}
 use Rattle.protocol.specs.Each.{Each}
 use Rattle.protocol.specs.Fields.{AtomSlot}
-use Rattle.protocol.specs.Kinds.{dataRow, errorField}
+use Rattle.protocol.specs.Kinds.{dataRow, errorField, pair}
 use Rattle.protocol.specs.Reading.{Read, got, bad}
 use Rattle.protocol.specs.Rules.{rulesOf}
 use Rattle.reader.specs.Row.{lengthsOf, over, placesIn, rowBy, startsOf}
@@ -24,7 +24,7 @@ valueOut (got none next) = recordOut next (3 ∷ [])
 valueOut (got (some s) next) = recordOut next (4 ∷ span s)
 valueOut (bad number place) = refusedOut 16 number place
 
--- a row's field and an error's field as elements are, with the next place for the bytes consumed
+-- a row's field, an error's field and a pair as elements are, with the next place for the bytes consumed
 unfoldable pub fieldOut : Read FieldDescription → List ℕ
 fieldOut (got d next) = recordOut next (5 ∷ fieldNumbers d)
 fieldOut (bad number place) = refusedOut 16 number place
@@ -32,6 +32,10 @@ fieldOut (bad number place) = refusedOut 16 number place
 unfoldable pub errorFieldOut : Read (Each AtomSlot (errorField .atoms)) → List ℕ
 errorFieldOut (got (c, (s, tt)) next) = recordOut next (6 ∷ c ∷ span s)
 errorFieldOut (bad number place) = refusedOut 16 number place
+
+unfoldable pub pairOut : Read (Each AtomSlot (pair .atoms)) → List ℕ
+pairOut (got (n, (v, tt)) next) = recordOut next (7 ∷ span n ++ span v)
+pairOut (bad number place) = refusedOut 16 number place
 
 -- a row as a record of its kind
 unfoldable pub rowOut : Row → List ℕ

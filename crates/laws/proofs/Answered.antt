@@ -58,6 +58,7 @@ element-back E.Null = refl
 element-back (E.Value s) = refl
 element-back (E.Field d) = refl
 element-back (E.ErrorField c s) = refl
+element-back (E.Pair n v) = refl
 element-back E.NeedMore = refl
 element-back (E.Refused number place) = refl
 
@@ -89,6 +90,7 @@ element-consumes E.Null = refl
 element-consumes (E.Value s) = refl
 element-consumes (E.Field d) = refl
 element-consumes (E.ErrorField c s) = refl
+element-consumes (E.Pair n v) = refl
 element-consumes E.NeedMore = refl
 element-consumes (E.Refused number place) = refl
 

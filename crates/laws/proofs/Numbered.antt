@@ -47,6 +47,7 @@ element-nothing E.Null = success-nothing
 element-nothing (E.Value s) = success-nothing
 element-nothing (E.Field d) = success-nothing
 element-nothing (E.ErrorField c s) = success-nothing
+element-nothing (E.Pair n v) = success-nothing
 element-nothing E.NeedMore = needs-nothing
 element-nothing (E.Refused number place) = refusal-nothing number place
 

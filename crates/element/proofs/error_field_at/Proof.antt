@@ -13,18 +13,18 @@ unfolding elementBy
 returns c =
     let v = c .before .before .before in
     let w = v .before .before .before .before in
-    rw (reached _ errorField _ _ _ _ (ap passedRead (sym (v .before .before .c .given .1)) ∙ w .pass-error-fields .ensures), ← v .error-field .ensures, c .before .code .given .1) refl
+    rw (reached _ errorField _ _ _ _ (ap passedRead (sym (v .before .before .c .given .1)) ∙ w .pass-items .ensures), ← v .error-field .ensures, c .before .code .given .1) refl
 
 returns-2 : tie.Need-returns-2
 unfolding elementBy
 returns-2 c =
     let v = c .before .before .before in
     let w = v .before .before .before .before in
-    rw (reached _ errorField _ _ _ _ (ap passedRead (sym (v .before .before .c .given .1)) ∙ w .pass-error-fields .ensures), ← v .error-field .ensures, c .before .place .given .1) refl
+    rw (reached _ errorField _ _ _ _ (ap passedRead (sym (v .before .before .c .given .1)) ∙ w .pass-items .ensures), ← v .error-field .ensures, c .before .place .given .1) refl
 
 returns-3 : tie.Need-returns-3
 unfolding elementBy
-returns-3 c = rw (← c .before .before .before .pass-error-fields .ensures, c .before .number .given .1) refl
+returns-3 c = rw (← c .before .before .before .pass-items .ensures, c .before .number .given .1) refl
 
 pub error-field-at-spec : {M : Type 1} → statement M
 error-field-at-spec =

@@ -29,6 +29,9 @@ returns-4 c = c .field-at .ensures ∙ rw (c .before .enum-told4 .given .1) refl
 returns-5 : tie.Need-returns-5
 returns-5 c = c .error-field-at .ensures ∙ rw (c .before .enum-told5 .given .1) refl
 
+returns-6 : tie.Need-returns-6
+returns-6 c = c .pair-at .ensures ∙ rw (c .before .enum-told6 .given .1) refl
+
 pub item-at-spec : {M : Type 1} → statement M
 item-at-spec =
     tie.close
@@ -43,8 +46,11 @@ item-at-spec =
     (λ c κs. search needs)
     (λ c. search needs)
     (λ c κs. search needs)
+    (λ c. search needs)
+    (λ c κs. search needs)
     returns
     returns-2
     returns-3
     returns-4
-    returns-5)
+    returns-5
+    returns-6)

@@ -14,7 +14,7 @@ use Rattle.element.proofs.value_or.Tie as tie
 
 -- the variants that are no value, by their positions
 abbrev others : List ℕ
-others = 0 ∷ 1 ∷ 4 ∷ 5 ∷ 6 ∷ 7 ∷ []
+others = 0 ∷ 1 ∷ 4 ∷ 5 ∷ 6 ∷ 7 ∷ 8 ∷ []
 
 no-value : (s stand : List ℕ) (e : Element) → OneOf others (tagOf El.the-type e) → [] ≡ valueOr s stand e
 unfolding valueOr
@@ -24,6 +24,7 @@ no-value s stand E.Null h = absurd (miss others 2 tt h)
 no-value s stand (E.Value v) h = absurd (miss others 3 tt h)
 no-value s stand (E.Field d) h = refl
 no-value s stand (E.ErrorField n t) h = refl
+no-value s stand (E.Pair n v) h = refl
 no-value s stand E.NeedMore h = refl
 no-value s stand (E.Refused n p) h = refl
 

@@ -58,15 +58,17 @@ no-list : (m : Message) (l : ℕ) → OneOf (places listless) (tagOf Msg.the-typ
 unfolding the-table find numbered listOf
 no-list m l h = none-in _ _ _ (passes listless (search tt depth 60 fits 5000) m h)
 
-returns-11 : tie.Need-returns-11
+returns-12 : tie.Need-returns-12
 unfolding the-table find numbered
-returns-11 c = no-list _ _ (c .match .keys11)
+returns-12 c = no-list _ _ (c .match .keys12)
 
 pub list-of-spec : {M : Type 1} → statement M
 unfolding the-table view listOf listIn
 list-of-spec =
     tie.close
     (tie.spec
+    (λ c. search needs)
+    (λ c κs. search needs)
     (λ c. search needs)
     (λ c κs. search needs)
     (λ c. search needs)
@@ -97,4 +99,5 @@ list-of-spec =
     (λ c. arm _ (c .before .before .message8 .given .1) (c .only7 .ensures) (counted-only _ _ _))
     (λ c. arm _ (c .before .before .message9 .given .1) (c .only8 .ensures) (counted-only _ _ _))
     (λ c. arm _ (c .before .before .message10 .given .1) (c .only9 .ensures) (counted-only _ _ _))
-    returns-11)
+    (λ c. arm _ (c .before .before .message11 .given .1) (c .only10 .ensures) (ended-only _ _ _))
+    returns-12)
