@@ -88,6 +88,7 @@ pub fn opening_of(input: &[u8]) -> Opening
         b'2' => opened(2, count),
         b'3' => opened(3, count),
         b'4' => opened(4, count),
+        b'5' => opened(5, count),
         _ => Opening::NoMode,
     }
 }

@@ -1,7 +1,7 @@
 -- `host::decoding::record` meets its contract: kind by kind, the numbers of its row and of its fields.
 use mathlib.Core.List.{[], _∷_}
 use mathlib.Core.Path.{_≡_, refl}
-use mir.Syntax.{w8}
+use mir.Syntax.{w8, w32}
 use borrow.Author.Needs.{needs}
 use Rattle.protocol.specs.declared.Message.the-variants as M
 use Rattle.protocol.specs.declared.response.GssEncResponse.the-variants as Gss
@@ -33,6 +33,19 @@ unfolding the-table view numbersOf
 returns-26 c =
     let g = c .before .before .before .message17 .given in
     rw (g .1) (rw (back w8 (g .0 .0 .format) (c .before .struct-told3 .given .0 .1)) at (c .copy3 .ensures))
+
+-- a pid and a key, which are passed on
+returns-28 : tie.Need-returns-28
+unfolding the-table view numbersOf
+returns-28 c =
+    let g = c .before .before .before .before .message19 .given in
+    rw (g .1) (rw (back w32 (g .0 .0 .pid) (c .before .before .struct-told4 .given .0 .1)) at (rw (back w32 (g .0 .0 .«secret_key») (c .before .struct-told5 .given .1 .0 .1)) at (c .key .ensures)))
+
+returns-37 : tie.Need-returns-37
+unfolding the-table view numbersOf
+returns-37 c =
+    let g = c .before .before .before .before .message25 .given in
+    rw (g .1) (rw (back w32 (g .0 .0 .pid) (c .before .before .struct-told6 .given .0 .1)) at (rw (back w32 (g .0 .0 .«secret_key») (c .before .struct-told7 .given .1 .0 .1)) at (c .key2 .ensures)))
 
 -- the two kinds whose message has two rows
 ssl-numbers : (a : SslResponse) → numbersOf (M.SslResponse a) ≡ 29 ∷ ownNumber (view (M.SslResponse a) .kind) ∷ []
@@ -119,6 +132,20 @@ record-spec =
     (λ c. search needs)
     (λ c κs. search needs)
     (λ c κs. search needs)
+    (λ c. search needs)
+    (λ c κs. search needs)
+    (λ c. search needs)
+    (λ c κs. search needs)
+    (λ c. search needs)
+    (λ c κs. search needs)
+    (λ c. search needs)
+    (λ c κs. search needs)
+    (λ c. search needs)
+    (λ c κs. search needs)
+    (λ c. search needs)
+    (λ c κs. search needs)
+    (λ c. search needs)
+    (λ c κs. search needs)
     (λ c. rw (c .before .before .message .given .1) (c .parse .ensures))
     (λ c. rw (c .before .before .message2 .given .1) (c .bind .ensures))
     (λ c. rw (c .before .before .message3 .given .1) (c .target .ensures))
@@ -146,6 +173,13 @@ record-spec =
     returns-25
     returns-26
     (λ c. rw (c .before .before .message18 .given .1) (c .notification .ensures))
-    (λ c. rw (c .before .before .message19 .given .1) (c .cancel .ensures))
+    returns-28
     returns-29
-    returns-30)
+    returns-30
+    (λ c. rw (c .before .before .message22 .given .1) (c .one-list6 .ensures))
+    (λ c. rw (c .before .enum-told10 .given .1) (c .none10 .ensures))
+    (λ c. rw (c .before .enum-told11 .given .1) (c .none11 .ensures))
+    (λ c. rw (c .before .before .message23 .given .1) (c .one-span4 .ensures))
+    (λ c. rw (c .before .enum-told12 .given .1) (c .none12 .ensures))
+    (λ c. rw (c .before .before .message24 .given .1) (c .two-spans .ensures))
+    returns-37)

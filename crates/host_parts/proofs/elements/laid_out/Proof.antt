@@ -34,11 +34,15 @@ returns-6 c = rw (c .before .before .element5 .given .1) (c .target .ensures)
 
 returns-7 : tie.Need-returns-7
 unfolding elementOut
-returns-7 c = rw (c .before .enum-told2 .given .1) (c .need-more .ensures)
+returns-7 c = rw (c .before .before .element6 .given .1) (c .two-spans .ensures)
 
 returns-8 : tie.Need-returns-8
 unfolding elementOut
-returns-8 c = rw (c .before .before .element6 .given .1) (c .refused .ensures)
+returns-8 c = rw (c .before .enum-told2 .given .1) (c .need-more .ensures)
+
+returns-9 : tie.Need-returns-9
+unfolding elementOut
+returns-9 c = rw (c .before .before .element7 .given .1) (c .refused .ensures)
 
 pub laid-out-spec : {M : Type 1} → statement M
 laid-out-spec =
@@ -62,6 +66,8 @@ laid-out-spec =
     (λ c κs. search needs)
     (λ c. search needs)
     (λ c κs. search needs)
+    (λ c. search needs)
+    (λ c κs. search needs)
     returns
     returns-2
     returns-3
@@ -69,4 +75,5 @@ laid-out-spec =
     returns-5
     returns-6
     returns-7
-    returns-8)
+    returns-8
+    returns-9)
