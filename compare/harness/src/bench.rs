@@ -136,6 +136,7 @@ fn sized(kind: &model::Kind, text: usize, list: usize) -> Content {
                 list
             ]),
             Errors => Field::Errors(vec![(b'M', letters(text)); list]),
+            Pairs => Field::Pairs((0..list).map(|i| (format!("name{i:04}").into_bytes(), letters(text))).collect()),
         })
         .collect();
     let fields = if kind.framing() == Framing::Bare { vec![Field::Num(0)] } else { fields };
@@ -146,12 +147,16 @@ fn generated(p: &mut Points) -> Vec<Costs> {
     use model::Part::*;
     let mut all = Vec::new();
     for (i, k) in KINDS.iter().enumerate() {
-        // CopyDone and CopyData go both ways, and an answer is two bytes: once is enough
+        // CopyDone and CopyData go both ways, a cancel request has two modes, and an answer is two bytes: once is enough
         if KINDS[..i].iter().any(|other| other.number == k.number) {
             continue;
         }
-        let texts: &[usize] = if k.has(&[Str, Rest, Values, RowFields, Errors]) { &[8, 64, 1024] } else { &[0] };
-        let lists: &[usize] = if k.has(&[Oids, Formats, Values, RowFields]) { &[1, 10, 100, 900] } else { &[1] };
+        let texts: &[usize] = if k.has(&[Str, Rest, Values, RowFields, Errors, Pairs]) { &[8, 64, 1024] } else { &[0] };
+        let lists: &[usize] = match k.body {
+            [Pairs] => &[2, 10],
+            _ if k.has(&[Oids, Formats, Values, RowFields]) => &[1, 10, 100, 900],
+            _ => &[1],
+        };
         for text in texts {
             for list in lists {
                 // a longer text beside more than one element tells nothing new

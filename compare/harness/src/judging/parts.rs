@@ -32,7 +32,9 @@ impl Run {
     pub(super) fn items_of(&mut self, mode: u8, buf: &[u8], answer: &Answer) {
         let Answer::Record(k, consumed, slots) = answer else { return };
         // items of one size need no call; Bind's values come after its formats
-        let Some((part @ (Part::Values | Part::RowFields | Part::Errors), start, count)) = model::lists(k, slots).first().copied() else {
+        let Some((part @ (Part::Values | Part::RowFields | Part::Errors | Part::Pairs), start, count)) =
+            model::lists(k, slots).first().copied()
+        else {
             return;
         };
         if count > READ_WHOLE {
@@ -45,6 +47,7 @@ impl Run {
                 Element::Value(start, len) => start + len,
                 Element::Field { name: (start, len), .. } => start + len + 19,
                 Element::ErrorField(_, start, len) => start + len + 1,
+                Element::Pair { value: (start, len), .. } => start + len + 1,
                 _ => at + 4,
             };
             let mut expected = numbers::of_element(&element);

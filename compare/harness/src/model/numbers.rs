@@ -74,6 +74,7 @@ pub fn of_element(e: &Element) -> Numbers {
             bits(format_code as i64),
         ]),
         Element::ErrorField(code, s, n) => element(&[6, code as usize, s, n]),
+        Element::Pair { name, value } => element(&[7, name.0, name.1, value.0, value.1]),
         Element::NeedMore => need_more(),
         Element::Refused(number, place) => refused(number, place),
     }
