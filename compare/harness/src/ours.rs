@@ -4,7 +4,7 @@ use crate::model::{numbered, Given, Kind, Part, RowFieldGiven};
 use tusweram::ffi::{self, Lists, Plain, Row};
 use tusweram::{FieldDescription, Span};
 
-pub use tusweram::ffi::{data_row, decode, element, field, value};
+pub use tusweram::ffi::{data_row, decode, element, field, pair, value};
 
 /// The item at a place of a frame, of a list whose items have no fixed size.
 pub fn item(list: Part, frame: &[u8], at: usize) -> Row {
