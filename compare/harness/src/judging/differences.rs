@@ -21,7 +21,7 @@ use Verdict::*;
 pub const ENTRIES: [&str; 25] = [
     "mode", "one-byte", "left-out", "copy-fail-from-backend", "answer-byte", "negative-length", "short-length", "limits", "signed-count",
     "count", "missing-zero", "past-the-frame", "cut", "bytes-left", "target", "value-length", "data-row", "error-fields", "cancel-key",
-    "first-word", "minor-version", "request-length", "startup-pairs", "same-name", "text",
+    "code-first", "minor-version", "request-length", "startup-pairs", "same-name", "text",
 ];
 
 /// The Rust reads a count of oids, and each count of Bind, as an unsigned number. A DataRow's values it does not read.
@@ -168,7 +168,7 @@ fn unknown_word(case: &Case) -> Verdict {
     if case.refused("InvalidStartupMessage") {
         return BothRefuse;
     }
-    when(case.waits() || case.refused("MessageTooLarge"), Under("first-word"), "an unknown code")
+    when(case.waits() || case.refused("MessageTooLarge"), Under("code-first"), "an unknown code")
 }
 
 /// The Rust takes any minor version. As if it were 3.0, the two are to be alike, or to differ under another entry.
