@@ -118,7 +118,7 @@ static int is(int count, ...) {
 #define STARTUP BYTES(STARTUP_BYTES)
 #define BIND BYTES("B\0\0\0\x15\0\0\0\x01\xff\xfe\0\x01\0\0\0\x01" "a\0\x01\0\x01")
 
-/* Mode 5: what its four kinds are, and each refusal with its place. */
+/* Mode 5: its four kinds, and then each refusal with its place. */
 static void first_packets(void) {
     decode(5, STARTUP);
     CHECK(is(7, Z(0), Z(0), Z(0), Z(22), Z(31), Z(8), Z(2)));
@@ -135,6 +135,9 @@ static void first_packets(void) {
         decode(5, (const uint8_t *)STARTUP_BYTES, n);
         CHECK(NEED_MORE);
     }
+}
+
+static void first_packets_refused(void) {
     /* the code is looked at before the length */
     decode(5, BYTES("\0\0\0\0\0\0\0"));
     CHECK(NEED_MORE);
@@ -165,6 +168,28 @@ static void first_packets(void) {
     CHECK(REFUSED(8, 16));
 }
 
+/* The other kinds of a session's start and end. */
+static void session_kinds(void) {
+    decode(0, BYTES("Q\0\0\0\x07ok\0"));
+    CHECK(is(7, Z(0), Z(0), Z(0), Z(8), Z(34), Z(5), Z(2)));
+    decode(0, BYTES("X\0\0\0\x04"));
+    CHECK(is(5, Z(0), Z(0), Z(0), Z(5), Z(35)));
+    decode(1, BYTES("S\0\0\0\x09" "a\0bc\0"));
+    CHECK(is(9, Z(0), Z(0), Z(0), Z(10), Z(36), Z(5), Z(1), Z(7), Z(2)));
+    decode(1, BYTES("K\0\0\0\x0c\0\0\0\x07\xff\xff\xff\xfe"));
+    CHECK(is(7, Z(0), Z(0), Z(0), Z(13), Z(37), Z(7), Z(4294967294)));
+    decode(1, BYTES("S\0\0\0\x04"));
+    CHECK(REFUSED(3, 1));
+    decode(1, BYTES("S\0\0\0\x06" "a\0"));
+    CHECK(REFUSED(6, 7));
+    decode(1, BYTES("K\0\0\0\x0b"));
+    CHECK(REFUSED(3, 1));
+    decode(0, BYTES("Q\0\0\x20\x01"));
+    CHECK(REFUSED(4, 1));
+    decode(0, BYTES("X\0\0\0\x05\0"));
+    CHECK(REFUSED(8, 5));
+}
+
 static void decoding(void) {
     decode(1, ROW);
     CHECK(is(7, Z(0), Z(0), Z(0), Z(17), Z(19), Z(7), Z(2)));
@@ -179,16 +204,6 @@ static void decoding(void) {
     CHECK(is(6, Z(0), Z(0), Z(0), Z(1), Z(29), Z(1)));
     decode(4, BYTES("G"));
     CHECK(is(5, Z(0), Z(0), Z(0), Z(1), Z(30)));
-    decode(0, BYTES("Q\0\0\0\x07ok\0"));
-    CHECK(is(7, Z(0), Z(0), Z(0), Z(8), Z(34), Z(5), Z(2)));
-    decode(0, BYTES("X\0\0\0\x04"));
-    CHECK(is(5, Z(0), Z(0), Z(0), Z(5), Z(35)));
-    decode(1, BYTES("S\0\0\0\x09" "a\0bc\0"));
-    CHECK(is(9, Z(0), Z(0), Z(0), Z(10), Z(36), Z(5), Z(1), Z(7), Z(2)));
-    decode(1, BYTES("K\0\0\0\x0c\0\0\0\x07\xff\xff\xff\xfe"));
-    CHECK(is(7, Z(0), Z(0), Z(0), Z(13), Z(37), Z(7), Z(4294967294)));
-    decode(1, BYTES("S\0\0\0\x04"));
-    CHECK(REFUSED(3, 1));
     decode(1, BYTES("C\0\0\0\x06OK"));
     CHECK(REFUSED(6, 5));
     decode(0, BYTES("S\0\0\0\x05\0"));
@@ -482,12 +497,6 @@ static void encoding(void) {
     WRITES(tusweram_encode(29, 1, 0, 0, NONE, NONE, out, out_len), "N");
     WRITES(tusweram_encode(30, 0, 0, 0, NONE, NONE, out, out_len), "G");
     WRITES(tusweram_encode(30, 1, 0, 0, NONE, NONE, out, out_len), "N");
-    WRITES(tusweram_encode(32, 0, 0, 0, NONE, NONE, out, out_len), "\0\0\0\x08\x04\xd2\x16\x2f");
-    WRITES(tusweram_encode(33, 0, 0, 0, NONE, NONE, out, out_len), "\0\0\0\x08\x04\xd2\x16\x30");
-    WRITES(tusweram_encode(34, 0, 0, 0, BYTES("ok"), NONE, out, out_len), "Q\0\0\0\x07ok\0");
-    WRITES(tusweram_encode(35, 0, 0, 0, NONE, NONE, out, out_len), "X\0\0\0\x04");
-    WRITES(tusweram_encode(36, 0, 0, 0, BYTES("a"), BYTES("bc"), out, out_len), "S\0\0\0\x09" "a\0bc\0");
-    WRITES(tusweram_encode(37, 0, 7, -2, NONE, NONE, out, out_len), "K\0\0\0\x0c\0\0\0\x07\xff\xff\xff\xfe");
     size_t others[] = {/* kinds with a list */ TUSWERAM_PARSE, TUSWERAM_BIND, TUSWERAM_ROW_DESCRIPTION, TUSWERAM_PARAMETER_DESCRIPTION,
                        TUSWERAM_DATA_ROW, TUSWERAM_ERROR_RESPONSE, TUSWERAM_NOTICE_RESPONSE, TUSWERAM_COPY_IN_RESPONSE,
                        TUSWERAM_COPY_OUT_RESPONSE, TUSWERAM_COPY_BOTH_RESPONSE, TUSWERAM_STARTUP, /* and none */ 0, NO_KIND, 256 + TUSWERAM_SYNC,
@@ -499,11 +508,22 @@ static void encoding(void) {
     REFUSES(10, tusweram_encode(3, 'X', 0, 0, NONE, NONE, out, out_len));
     REFUSES(10, tusweram_encode(21, 0, 0, 0, NONE, NONE, out, out_len));
     REFUSES(10, tusweram_encode(20, 0, 0, 0, BYTES("a\0"), NONE, out, out_len));
+    static uint8_t much[8192];
+    memset(much, 'a', sizeof much);
+    REFUSES(4, tusweram_encode(20, 0, 0, 0, much, sizeof much, NONE, out, out_len));
+}
+
+static void encoding_session_kinds(void) {
+    WRITES(tusweram_encode(32, 0, 0, 0, NONE, NONE, out, out_len), "\0\0\0\x08\x04\xd2\x16\x2f");
+    WRITES(tusweram_encode(33, 0, 0, 0, NONE, NONE, out, out_len), "\0\0\0\x08\x04\xd2\x16\x30");
+    WRITES(tusweram_encode(34, 0, 0, 0, BYTES("ok"), NONE, out, out_len), "Q\0\0\0\x07ok\0");
+    WRITES(tusweram_encode(35, 0, 0, 0, NONE, NONE, out, out_len), "X\0\0\0\x04");
+    WRITES(tusweram_encode(36, 0, 0, 0, BYTES("a"), BYTES("bc"), out, out_len), "S\0\0\0\x09" "a\0bc\0");
+    WRITES(tusweram_encode(37, 0, 7, -2, NONE, NONE, out, out_len), "K\0\0\0\x0c\0\0\0\x07\xff\xff\xff\xfe");
     REFUSES(10, tusweram_encode(34, 0, 0, 0, BYTES("a\0"), NONE, out, out_len));
     REFUSES(10, tusweram_encode(36, 0, 0, 0, BYTES("a"), BYTES("\0"), out, out_len));
     static uint8_t much[8192];
     memset(much, 'a', sizeof much);
-    REFUSES(4, tusweram_encode(20, 0, 0, 0, much, sizeof much, NONE, out, out_len));
     REFUSES(4, tusweram_encode(34, 0, 0, 0, much, sizeof much, NONE, out, out_len));
     REFUSES(4, tusweram_encode(36, 0, 0, 0, NONE, much, sizeof much, out, out_len));
 }
@@ -600,7 +620,9 @@ int main(void) {
     output_edge = edge();
     numbers_edge = edge();
     decoding();
+    session_kinds();
     first_packets();
+    first_packets_refused();
     elements();
     values();
     fields();
@@ -608,6 +630,7 @@ int main(void) {
     pairs();
     rows();
     encoding();
+    encoding_session_kinds();
     encoding_lists();
     encoding_startup();
     encoding_row_description();

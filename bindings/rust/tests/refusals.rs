@@ -196,7 +196,18 @@ fn refusal_10_not_representable() {
     // an error's codes and lengths differ in number
     cannot(10, encode::error_response(b"SM", &[1], b"a", out));
     cannot(10, encode::notice_response(b"S", &[1, 0], b"a", out));
-    // a start-up packet: an odd number of lengths, which add up or not; an empty name; lengths that do not add up; a zero byte
+    // a name outside the run
+    let field = FieldDescription { name: Span { start: 0, len: 1 }, ..FieldDescription::default() };
+    cannot(10, encode::row_description(&[field], b"", out));
+    // 10 comes before 4 and 9, and nothing was written
+    cannot(10, encode::command_complete(&[0; 9000], &mut []));
+    assert_eq!(*out, [0; 64]);
+}
+
+#[test]
+fn refusal_10_of_a_start_up_packet() {
+    let out = &mut [0; 64];
+    // an odd number of lengths, which add up or not; an empty name; lengths that do not add up; a zero byte
     cannot(10, encode::startup(&[4], b"user", out));
     cannot(10, encode::startup(&[1, 1, 1], b"abc", out));
     cannot(10, encode::startup(&[1, 0, 0], b"a", out));
@@ -210,13 +221,10 @@ fn refusal_10_not_representable() {
     cannot(10, encode::startup(&[u32::MAX, 1], b"", out));
     cannot(10, encode::startup(&[2, 0], b"a\0", out));
     cannot(10, encode::startup(&[1, 1], b"a\0", out));
-    // a name outside the run
-    let field = FieldDescription { name: Span { start: 0, len: 1 }, ..FieldDescription::default() };
-    cannot(10, encode::row_description(&[field], b"", out));
-    // 10 comes before 4 and 9, and nothing was written
-    cannot(10, encode::command_complete(&[0; 9000], &mut []));
+    // 10 comes before 4 and 9, and 4 before 9
     cannot(10, encode::startup(&[0, 9000], &[b'a'; 9000], &mut []));
     cannot(10, encode::startup(&[9000], &[b'a'; 9000], &mut []));
+    cannot(4, encode::startup(&[1, 8999], &[b'a'; 9000], &mut []));
     assert_eq!(*out, [0; 64]);
 }
 
