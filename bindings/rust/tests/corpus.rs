@@ -65,7 +65,7 @@ fn real_traffic() {
                 left += 1;
                 continue;
             }
-            // raw.1 was written by hand, with a frame that the server refused too
+            // raw.1 was written by hand, with two frames that the server refused too
             if name.starts_with("raw.") && matches!(decode(mode, frame), Decoded::Refused(_)) {
                 damaged += 1;
                 continue;

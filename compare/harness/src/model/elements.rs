@@ -36,6 +36,18 @@ pub fn element(mode: u8, buf: &[u8], list: usize, number: usize) -> Element {
     frame.element(*part).unwrap()
 }
 
+/// The item of a list at a place of a frame, and the next place.
+pub fn item(list: Part, bytes: &[u8], at: usize) -> (Element, usize) {
+    if at > bytes.len() {
+        return (Element::Refused(6, at), 0);
+    }
+    let mut frame = Frame::new(bytes, at);
+    match frame.element(list) {
+        Ok(element) => (element, frame.at),
+        Err((number, place)) => (Element::Refused(number, place), 0),
+    }
+}
+
 /// What a record means.
 pub fn content(answer: &Answer, buf: &[u8]) -> Option<Content> {
     let Answer::Record(kind, end, slots) = answer else { return None };

@@ -31,7 +31,7 @@ pub type Read<T> = Result<T, (u8, usize)>;
 /// A frame, how far it is read, and what is being read, for whoever asks what was cut.
 pub struct Frame<'a> {
     bytes: &'a [u8],
-    at: usize,
+    pub at: usize,
     pub what: &'static str,
 }
 

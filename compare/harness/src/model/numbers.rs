@@ -79,3 +79,10 @@ pub fn of_element(e: &Element) -> Numbers {
         Element::Refused(number, place) => refused(number, place),
     }
 }
+
+/// What a call for the item at a place answers, with the next place.
+pub fn of_item((item, next): &(Element, usize)) -> Numbers {
+    let mut numbers = of_element(item);
+    numbers[3] = *next;
+    numbers
+}
