@@ -189,12 +189,12 @@ fn too_short(case: &Case) -> Verdict {
     if case.buf.len() < case.end() {
         return when(case.waits(), Under("short-length"), "a short length, incomplete");
     }
-    let refuses = match (framing(case.mode), case.kind().has_key()) {
-        (Some(Framing::Untyped), true) => "InvalidCancelRequest",
-        (Some(Framing::Untyped), false) => "InvalidStartupMessage",
-        _ => "InvalidSecretKey",
-    };
-    if case.refused(refuses) {
+    let key = case.kind().has_key();
+    if framing(case.mode) == Some(Framing::Untyped) {
+        let error = if key { "InvalidCancelRequest" } else { "InvalidStartupMessage" };
+        return when(case.refused(error), BothRefuse, "a short first packet");
+    }
+    if key && case.refused("InvalidSecretKey") {
         return BothRefuse;
     }
     when(case.wild() || case.refused("InvalidTransactionStatus"), Under("short-length"), "a short length")
@@ -244,7 +244,7 @@ fn cut(case: &Case, place: usize) -> Verdict {
     if case.kind().has(&[Part::Pairs]) {
         return match case.buf[place..].contains(&0) {
             true => when(case.took(), Under("past-the-frame"), "a start-up's pairs past the frame"),
-            false => when(case.took_up_to(place), Under("startup-pairs"), "a start-up's pairs with no end"),
+            false => when(took_pairs_up_to(case, place), Under("startup-pairs"), "a start-up's pairs with no end"),
         };
     }
     match model::fault(case.mode, case.buf) {
@@ -253,6 +253,18 @@ fn cut(case: &Case, place: usize) -> Verdict {
         _ if case.followed() => when(case.wild(), Under("past-the-frame"), "a number or value past the frame"),
         _ => when(case.panicked(), Under("cut"), "a number or value that is cut"),
     }
+}
+
+/// Whether the Rust took a start-up as if its pairs ended at a place: those before it, and a name that stands alone with an empty value.
+fn took_pairs_up_to(case: &Case, place: usize) -> bool {
+    let ended = |end: &[u8]| {
+        let mut packet = [&case.buf[..place], end].concat();
+        let length = packet.len() as u32;
+        packet[..4].copy_from_slice(&length.to_be_bytes());
+        let pairs = model::content(&model::decode_unlimited(case.mode, &packet), &packet);
+        pairs.is_some_and(|c| *case.seen == Seen::Record(c.lossy().kept().last_of_each_name()))
+    };
+    case.consumed == place && (ended(&[0]) || ended(&[0, 0]))
 }
 
 fn not_allowed(case: &Case) -> Verdict {
