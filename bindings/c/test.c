@@ -87,6 +87,11 @@ static void error_field(const uint8_t *bytes, size_t n, size_t at) {
     tusweram_error_field(lent(bytes, n), n, at, row);
 }
 
+static void pair(const uint8_t *bytes, size_t n, size_t at) {
+    stale();
+    tusweram_pair(lent(bytes, n), n, at, row);
+}
+
 /* Are these the row's numbers, with zeros behind them? */
 static int is(int count, ...) {
     va_list numbers;
@@ -108,7 +113,82 @@ static int is(int count, ...) {
 #define ERROR_BYTES "E\0\0\0\x0aSx\0M\0\0"
 #define FIELDS BYTES(FIELD_BYTES)
 #define ERRORS BYTES(ERROR_BYTES)
+/* two pairs: user, bob; xy, empty */
+#define STARTUP_BYTES "\0\0\0\x16\0\x03\0\0user\0bob\0xy\0\0\0"
+#define STARTUP BYTES(STARTUP_BYTES)
 #define BIND BYTES("B\0\0\0\x15\0\0\0\x01\xff\xfe\0\x01\0\0\0\x01" "a\0\x01\0\x01")
+
+/* Mode 5: its four kinds, and then each refusal with its place. */
+static void first_packets(void) {
+    decode(5, STARTUP);
+    CHECK(is(7, Z(0), Z(0), Z(0), Z(22), Z(31), Z(8), Z(2)));
+    decode(5, BYTES("\0\0\0\x09\0\x03\0\0\0"));
+    CHECK(is(6, Z(0), Z(0), Z(0), Z(9), Z(31), Z(8)));
+    decode(5, BYTES("\0\0\0\x08\x04\xd2\x16\x2f"));
+    CHECK(is(5, Z(0), Z(0), Z(0), Z(8), Z(32)));
+    decode(5, BYTES("\0\0\0\x08\x04\xd2\x16\x30"));
+    CHECK(is(5, Z(0), Z(0), Z(0), Z(8), Z(33)));
+    decode(5, BYTES("\0\0\0\x10\x04\xd2\x16\x2e\0\0\0\x07\x80\0\0\0"));
+    CHECK(is(7, Z(0), Z(0), Z(0), Z(16), Z(28), Z(7), Z(2147483648)));
+    /* every cut waits, with nothing behind it to read */
+    for (size_t n = 0; n < 22; n++) {
+        decode(5, (const uint8_t *)STARTUP_BYTES, n);
+        CHECK(NEED_MORE);
+    }
+}
+
+static void first_packets_refused(void) {
+    /* the code is looked at before the length */
+    decode(5, BYTES("\0\0\0\0\0\0\0"));
+    CHECK(NEED_MORE);
+    decode(5, BYTES("\0\0\0\0\0\x03\0\x02"));
+    CHECK(REFUSED(2, 4));
+    decode(5, BYTES("\0\0\0\x08\0\x03\0\0"));
+    CHECK(REFUSED(3, 0));
+    decode(5, BYTES("\xff\xff\xff\xff\x04\xd2\x16\x2f"));
+    CHECK(REFUSED(3, 0));
+    decode(5, BYTES("\0\0\x20\x01\x04\xd2\x16\x30"));
+    CHECK(REFUSED(4, 0));
+    decode(5, BYTES("\0\0\x20\0\x04\xd2\x16\x30"));
+    CHECK(NEED_MORE);
+    /* no zero byte ends the name; the value is missing; none ends it; none ends the list */
+    decode(5, BYTES("\0\0\0\x0a\0\x03\0\0ab"));
+    CHECK(REFUSED(6, 8));
+    decode(5, BYTES("\0\0\0\x0a\0\x03\0\0" "a\0"));
+    CHECK(REFUSED(6, 10));
+    decode(5, BYTES("\0\0\0\x0b\0\x03\0\0" "a\0b"));
+    CHECK(REFUSED(6, 10));
+    decode(5, BYTES("\0\0\0\x0b\0\x03\0\0" "a\0\0"));
+    CHECK(REFUSED(6, 11));
+    decode(5, BYTES("\0\0\0\x0a\0\x03\0\0\0\0"));
+    CHECK(REFUSED(8, 9));
+    decode(5, BYTES("\0\0\0\x09\x04\xd2\x16\x2f\0"));
+    CHECK(REFUSED(8, 8));
+    decode(5, BYTES("\0\0\0\x11\x04\xd2\x16\x2e\0\0\0\x07\0\0\0\x09\0"));
+    CHECK(REFUSED(8, 16));
+}
+
+/* The other kinds of a session's start and end. */
+static void session_kinds(void) {
+    decode(0, BYTES("Q\0\0\0\x07ok\0"));
+    CHECK(is(7, Z(0), Z(0), Z(0), Z(8), Z(34), Z(5), Z(2)));
+    decode(0, BYTES("X\0\0\0\x04"));
+    CHECK(is(5, Z(0), Z(0), Z(0), Z(5), Z(35)));
+    decode(1, BYTES("S\0\0\0\x09" "a\0bc\0"));
+    CHECK(is(9, Z(0), Z(0), Z(0), Z(10), Z(36), Z(5), Z(1), Z(7), Z(2)));
+    decode(1, BYTES("K\0\0\0\x0c\0\0\0\x07\xff\xff\xff\xfe"));
+    CHECK(is(7, Z(0), Z(0), Z(0), Z(13), Z(37), Z(7), Z(4294967294)));
+    decode(1, BYTES("S\0\0\0\x04"));
+    CHECK(REFUSED(3, 1));
+    decode(1, BYTES("S\0\0\0\x06" "a\0"));
+    CHECK(REFUSED(6, 7));
+    decode(1, BYTES("K\0\0\0\x0b"));
+    CHECK(REFUSED(3, 1));
+    decode(0, BYTES("Q\0\0\x20\x01"));
+    CHECK(REFUSED(4, 1));
+    decode(0, BYTES("X\0\0\0\x05\0"));
+    CHECK(REFUSED(8, 5));
+}
 
 static void decoding(void) {
     decode(1, ROW);
@@ -128,9 +208,11 @@ static void decoding(void) {
     CHECK(REFUSED(6, 5));
     decode(0, BYTES("S\0\0\0\x05\0"));
     CHECK(REFUSED(8, 5));
-    decode(255, ROW);
-    CHECK(REFUSED(1, 0));
-    for (int mode = 0; mode <= 4; mode++) {
+    for (int mode = 6; mode <= 255; mode++) {
+        decode((uint8_t)mode, ROW);
+        CHECK(REFUSED(1, 0));
+    }
+    for (int mode = 0; mode <= 5; mode++) {
         stale();
         tusweram_decode((uint8_t)mode, NONE, row);
         CHECK(NEED_MORE);
@@ -169,6 +251,14 @@ static void elements(void) {
     CHECK(is(13, Z(0), Z(0), Z(0), Z(0), Z(5), Z(7), Z(1), Z(2), Z(3), Z(4), Z(5), Z(4294967295), Z(1)));
     element(1, BYTES("E\0\0\0\x08Sx\0\0"), 0, 0);
     CHECK(is(8, Z(0), Z(0), Z(0), Z(0), Z(6), Z(83), Z(6), Z(1)));
+    element(5, STARTUP, 0, 0);
+    CHECK(is(9, Z(0), Z(0), Z(0), Z(0), Z(7), Z(8), Z(4), Z(13), Z(3)));
+    element(5, STARTUP, 0, 1);
+    CHECK(is(8, Z(0), Z(0), Z(0), Z(0), Z(7), Z(17), Z(2), Z(20)));
+    element(5, STARTUP, 0, 2);
+    CHECK(REFUSED(11, 0));
+    element(5, STARTUP, 1, 0);
+    CHECK(REFUSED(11, 0));
     /* numbers and lists that are not there */
     size_t past[] = {2, 3, 65536, SIZE_MAX / 4, SIZE_MAX / 4 + 1, SIZE_MAX - 1, SIZE_MAX};
     for (size_t i = 0; i < sizeof past / sizeof *past; i++) {
@@ -269,6 +359,34 @@ static void error_fields(void) {
     }
     stale();
     tusweram_error_field(NONE, 0, row);
+    CHECK(REFUSED(6, 0));
+}
+
+static void pairs(void) {
+    pair(STARTUP, 8);
+    CHECK(is(9, Z(0), Z(0), Z(0), Z(17), Z(7), Z(8), Z(4), Z(13), Z(3)));
+    pair(STARTUP, 17);
+    CHECK(is(8, Z(0), Z(0), Z(0), Z(21), Z(7), Z(17), Z(2), Z(20)));
+    /* the list's end is a name as any other: here no value follows it, and here one does */
+    pair(STARTUP, 21);
+    CHECK(REFUSED(6, 22));
+    pair(BYTES("\0ab\0"), 0);
+    CHECK(is(9, Z(0), Z(0), Z(0), Z(4), Z(7), Z(0), Z(0), Z(1), Z(2)));
+    /* cut: the place of the name, then of the value */
+    for (size_t n = 8; n < 17; n++) {
+        pair((const uint8_t *)STARTUP_BYTES, n, 8);
+        CHECK(REFUSED(6, n < 13 ? 8 : 13));
+    }
+    size_t past[] = {22, 23, 24, SIZE_MAX / 2, SIZE_MAX - 1, SIZE_MAX};
+    for (size_t i = 0; i < sizeof past / sizeof *past; i++) {
+        pair(STARTUP, past[i]);
+        CHECK(REFUSED(6, past[i]));
+        stale();
+        tusweram_pair(NONE, past[i], row);
+        CHECK(REFUSED(6, past[i]));
+    }
+    stale();
+    tusweram_pair(NONE, 0, row);
     CHECK(REFUSED(6, 0));
 }
 
@@ -381,7 +499,8 @@ static void encoding(void) {
     WRITES(tusweram_encode(30, 1, 0, 0, NONE, NONE, out, out_len), "N");
     size_t others[] = {/* kinds with a list */ TUSWERAM_PARSE, TUSWERAM_BIND, TUSWERAM_ROW_DESCRIPTION, TUSWERAM_PARAMETER_DESCRIPTION,
                        TUSWERAM_DATA_ROW, TUSWERAM_ERROR_RESPONSE, TUSWERAM_NOTICE_RESPONSE, TUSWERAM_COPY_IN_RESPONSE,
-                       TUSWERAM_COPY_OUT_RESPONSE, TUSWERAM_COPY_BOTH_RESPONSE, /* and none */ 0, NO_KIND, 256 + TUSWERAM_SYNC, SIZE_MAX};
+                       TUSWERAM_COPY_OUT_RESPONSE, TUSWERAM_COPY_BOTH_RESPONSE, TUSWERAM_STARTUP, /* and none */ 0, NO_KIND, 256 + TUSWERAM_SYNC,
+                       SIZE_MAX};
     for (size_t i = 0; i < sizeof others / sizeof *others; i++)
         REFUSES(2, tusweram_encode(others[i], 'S', 0, 0, NONE, NONE, out, out_len));
     REFUSES(2, tusweram_encode(29, 2, 0, 0, NONE, NONE, out, out_len));
@@ -392,6 +511,21 @@ static void encoding(void) {
     static uint8_t much[8192];
     memset(much, 'a', sizeof much);
     REFUSES(4, tusweram_encode(20, 0, 0, 0, much, sizeof much, NONE, out, out_len));
+}
+
+static void encoding_session_kinds(void) {
+    WRITES(tusweram_encode(32, 0, 0, 0, NONE, NONE, out, out_len), "\0\0\0\x08\x04\xd2\x16\x2f");
+    WRITES(tusweram_encode(33, 0, 0, 0, NONE, NONE, out, out_len), "\0\0\0\x08\x04\xd2\x16\x30");
+    WRITES(tusweram_encode(34, 0, 0, 0, BYTES("ok"), NONE, out, out_len), "Q\0\0\0\x07ok\0");
+    WRITES(tusweram_encode(35, 0, 0, 0, NONE, NONE, out, out_len), "X\0\0\0\x04");
+    WRITES(tusweram_encode(36, 0, 0, 0, BYTES("a"), BYTES("bc"), out, out_len), "S\0\0\0\x09" "a\0bc\0");
+    WRITES(tusweram_encode(37, 0, 7, -2, NONE, NONE, out, out_len), "K\0\0\0\x0c\0\0\0\x07\xff\xff\xff\xfe");
+    REFUSES(10, tusweram_encode(34, 0, 0, 0, BYTES("a\0"), NONE, out, out_len));
+    REFUSES(10, tusweram_encode(36, 0, 0, 0, BYTES("a"), BYTES("\0"), out, out_len));
+    static uint8_t much[8192];
+    memset(much, 'a', sizeof much);
+    REFUSES(4, tusweram_encode(34, 0, 0, 0, much, sizeof much, NONE, out, out_len));
+    REFUSES(4, tusweram_encode(36, 0, 0, 0, NONE, much, sizeof much, out, out_len));
 }
 
 /* A call of tusweram_encode_lists, by the slices that a kind has. */
@@ -422,7 +556,8 @@ static void encoding_lists(void) {
     WRITES(lists(26, -128, NONE, NONE, NONE, out, out_len, NONE, NONE, one, 1, NONE), "W\0\0\0\x09\x80\0\x01\0\x01");
     size_t others[] = {/* kinds with no list, or with row fields */ TUSWERAM_CLOSE, TUSWERAM_EMPTY_QUERY_RESPONSE,
                        TUSWERAM_ROW_DESCRIPTION, TUSWERAM_COMMAND_COMPLETE, TUSWERAM_READY_FOR_QUERY, TUSWERAM_NOTIFICATION_RESPONSE,
-                       TUSWERAM_GSS_ENC_RESPONSE, /* and none */ 0, NO_KIND, SIZE_MAX};
+                       TUSWERAM_GSS_ENC_RESPONSE, TUSWERAM_SSL_REQUEST, TUSWERAM_QUERY, TUSWERAM_BACKEND_KEY_DATA, /* and none */ 0, NO_KIND,
+                       SIZE_MAX};
     for (size_t i = 0; i < sizeof others / sizeof *others; i++)
         REFUSES(2, lists(others[i], 0, NONE, NONE, NONE, out, out_len, NONE, NONE, NONE, NONE));
     /* lengths that say more or less than is lent */
@@ -435,6 +570,30 @@ static void encoding_lists(void) {
     REFUSES(10, lists(22, 0, BYTES("SM"), NONE, NONE, out, out_len, wide, 2, NONE, NONE, NONE));
     REFUSES(10, lists(22, 0, BYTES("SM"), NONE, NONE, out, out_len, NONE, NONE, NONE, NONE));
     REFUSES(10, lists(22, 0, NONE, NONE, BYTES("bad"), out, out_len, three, 2, NONE, NONE, NONE));
+}
+
+static void encoding_startup(void) {
+    static const uint32_t two[] = {4, 3, 2, 0}, same[] = {1, 0, 1, 1}, unnamed[] = {0, 1}, wide[] = {1, UINT32_MAX}, odd[] = {1, 0, 0};
+    WRITES(lists(31, 0, NONE, NONE, BYTES("userbobxy"), out, out_len, two, 4, NONE, NONE, NONE), STARTUP_BYTES);
+    WRITES(lists(31, 0, NONE, NONE, BYTES("bba"), out, out_len, same, 4, NONE, NONE, NONE), "\0\0\0\x10\0\x03\0\0b\0\0b\0a\0\0");
+    WRITES(lists(31, 0, NONE, NONE, NONE, out, out_len, NONE, NONE, NONE, NONE), "\0\0\0\x09\0\x03\0\0\0");
+    /* lengths that do not add up; an odd number of them; an empty name; a zero byte in a name, and in a value */
+    REFUSES(10, lists(31, 0, NONE, NONE, NONE, out, out_len, two, 4, NONE, NONE, NONE));
+    REFUSES(10, lists(31, 0, NONE, NONE, BYTES("userbobx"), out, out_len, two, 4, NONE, NONE, NONE));
+    REFUSES(10, lists(31, 0, NONE, NONE, BYTES("userbobxyz"), out, out_len, two, 4, NONE, NONE, NONE));
+    REFUSES(10, lists(31, 0, NONE, NONE, BYTES("a"), out, out_len, NONE, NONE, NONE, NONE));
+    REFUSES(10, lists(31, 0, NONE, NONE, BYTES("a"), out, out_len, wide, 2, NONE, NONE, NONE));
+    REFUSES(10, lists(31, 0, NONE, NONE, BYTES("user"), out, out_len, two, 1, NONE, NONE, NONE));
+    REFUSES(10, lists(31, 0, NONE, NONE, BYTES("a"), out, out_len, odd, 3, NONE, NONE, NONE));
+    REFUSES(10, lists(31, 0, NONE, NONE, BYTES("a"), out, out_len, unnamed, 2, NONE, NONE, NONE));
+    REFUSES(10, lists(31, 0, NONE, NONE, BYTES("us\0rbobxy"), out, out_len, two, 4, NONE, NONE, NONE));
+    REFUSES(10, lists(31, 0, NONE, NONE, BYTES("userb\0bxy"), out, out_len, two, 4, NONE, NONE, NONE));
+    /* 10 comes before 4, and 4 before 9 */
+    static const uint32_t long_value[] = {1, 8191}, long_unnamed[] = {0, 8192};
+    static uint8_t much[8192];
+    memset(much, 'a', sizeof much);
+    REFUSES(4, lists(31, 0, NONE, NONE, much, sizeof much, out, out_len, long_value, 2, NONE, NONE, NONE));
+    REFUSES(10, lists(31, 0, NONE, NONE, much, sizeof much, out, out_len, long_unnamed, 2, NONE, NONE, NONE));
 }
 
 static void encoding_row_description(void) {
@@ -461,13 +620,19 @@ int main(void) {
     output_edge = edge();
     numbers_edge = edge();
     decoding();
+    session_kinds();
+    first_packets();
+    first_packets_refused();
     elements();
     values();
     fields();
     error_fields();
+    pairs();
     rows();
     encoding();
+    encoding_session_kinds();
     encoding_lists();
+    encoding_startup();
     encoding_row_description();
     printf("%d checks, %d wrong\n", checks, wrong);
     return wrong != 0;

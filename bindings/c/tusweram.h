@@ -43,9 +43,11 @@ enum tusweram_status {
 enum tusweram_mode {
     TUSWERAM_FRONTEND = 0, /* messages that a client sends */
     TUSWERAM_BACKEND = 1,  /* messages that a server sends */
-    TUSWERAM_CANCEL = 2,   /* a request to cancel */
+    TUSWERAM_CANCEL = 2,   /* a first packet that can only be a request to cancel */
     TUSWERAM_TLS = 3,      /* the answer to a request for TLS, one byte */
-    TUSWERAM_GSS = 4       /* the answer to a request for GSS encryption, one byte */
+    TUSWERAM_GSS = 4,      /* the answer to a request for GSS encryption, one byte */
+    TUSWERAM_FIRST = 5     /* a client's first packet: STARTUP, SSL_REQUEST, GSS_ENC_REQUEST or CANCEL_REQUEST; after the answer to a
+                              request for encryption comes another */
 };
 
 /* Kinds, with their fields from out[5] on. */
@@ -79,23 +81,31 @@ enum tusweram_kind {
     TUSWERAM_NOTIFICATION_RESPONSE = 27, /* signed pid, part channel, part payload */
     TUSWERAM_CANCEL_REQUEST = 28,        /* signed pid, signed secret key */
     TUSWERAM_SSL_RESPONSE = 29,          /* 0 accept, 1 refuse */
-    TUSWERAM_GSS_ENC_RESPONSE = 30       /* 0 accept, 1 refuse */
+    TUSWERAM_GSS_ENC_RESPONSE = 30,      /* 0 accept, 1 refuse */
+    TUSWERAM_STARTUP = 31,               /* list of pairs, in the order of the packet; a name may stand there more than once */
+    TUSWERAM_SSL_REQUEST = 32,           /* none */
+    TUSWERAM_GSS_ENC_REQUEST = 33,       /* none */
+    TUSWERAM_QUERY = 34,                 /* part query */
+    TUSWERAM_TERMINATE = 35,             /* none */
+    TUSWERAM_PARAMETER_STATUS = 36,      /* part name, part value */
+    TUSWERAM_BACKEND_KEY_DATA = 37       /* signed pid, signed secret key */
 };
 
 /* Sorts of elements, with their fields from out[5] on. */
 enum tusweram_sort {
-    TUSWERAM_OID = 1,        /* the number */
-    TUSWERAM_FORMAT = 2,     /* signed number */
-    TUSWERAM_NULL = 3,       /* none */
-    TUSWERAM_VALUE = 4,      /* part */
-    TUSWERAM_FIELD = 5,      /* part name, signed table, signed column, type oid, signed size, signed modifier, signed format */
-    TUSWERAM_ERROR_FIELD = 6 /* code byte, part text */
+    TUSWERAM_OID = 1,         /* the number */
+    TUSWERAM_FORMAT = 2,      /* signed number */
+    TUSWERAM_NULL = 3,        /* none */
+    TUSWERAM_VALUE = 4,       /* part */
+    TUSWERAM_FIELD = 5,       /* part name, signed table, signed column, type oid, signed size, signed modifier, signed format */
+    TUSWERAM_ERROR_FIELD = 6, /* code byte, part text */
+    TUSWERAM_PAIR = 7         /* part name, part value */
 };
 
 /* Numbers of refusals. */
 enum tusweram_refusal {
-    TUSWERAM_MODE_UNKNOWN = 1,       /* the mode is none of 0 to 4 */
-    TUSWERAM_TYPE_UNKNOWN = 2,       /* the type byte, answer byte or cancel code is unknown; encoding: no such kind */
+    TUSWERAM_MODE_UNKNOWN = 1,       /* the mode is none of 0 to 5 */
+    TUSWERAM_TYPE_UNKNOWN = 2,       /* the type byte, answer byte or code is unknown; encoding: no such kind */
     TUSWERAM_LENGTH_TOO_SMALL = 3,   /* the length is too small */
     TUSWERAM_LENGTH_ABOVE_LIMIT = 4, /* the length is above the kind's limit */
     TUSWERAM_BAD_COUNT = 5,          /* a count is negative, or too large for the frame */
@@ -110,7 +120,7 @@ enum tusweram_refusal {
 /* The first message of a buffer; any bytes may follow it. */
 void tusweram_decode(uint8_t mode, const uint8_t *buf, size_t buf_len, size_t out[TUSWERAM_NUMBERS]);
 
-/* libhost_parts.a has this function and the four below; libhost.a has the others.
+/* libhost_parts.a has this function and the five below; libhost.a has the others.
  *
  * An element of a list of the buffer's first message. BIND has lists 0 (formats), 1 (values) and 2 (result formats), every other kind with a
  * list has list 0. Each call decodes the message anew. */
@@ -127,6 +137,9 @@ void tusweram_field(const uint8_t *frame, size_t frame_len, size_t at, size_t ou
 /* The same of an ERROR_RESPONSE or NOTICE_RESPONSE, as the element TUSWERAM_ERROR_FIELD. Go by the list's count: the zero byte that ends the
  * list is read as any code is. */
 void tusweram_error_field(const uint8_t *frame, size_t frame_len, size_t at, size_t out[TUSWERAM_NUMBERS]);
+
+/* The same of a STARTUP, as the element TUSWERAM_PAIR. Go by the list's count: the zero byte that ends the list is read as an empty name. */
+void tusweram_pair(const uint8_t *frame, size_t frame_len, size_t at, size_t out[TUSWERAM_NUMBERS]);
 
 /* The values of a DATA_ROW from the backend, the buffer's first message, in one pass: value i has lengths[i] bytes from starts[i] on, and is
  * NULL where lengths[i] is -1 (starts[i] is then 0). Later entries are kept. out as of tusweram_decode; refusal 9 where a slice has
@@ -146,7 +159,8 @@ static inline unsigned tusweram_refusal_of(size_t answer) { return answer > SIZE
  *   EXECUTE                  one name, first max rows    COPY_FAIL               one message
  *   COMMAND_COMPLETE         one tag                     READY_FOR_QUERY         byte status
  *   NOTIFICATION_RESPONSE    first pid, one channel, two payload
- *   CANCEL_REQUEST           first pid, second secret key
+ *   CANCEL_REQUEST, BACKEND_KEY_DATA  first pid, second secret key
+ *   PARAMETER_STATUS         one name, two value         QUERY                   one query
  *   SSL_RESPONSE, GSS_ENC_RESPONSE    byte 0 accept, 1 refuse
  *   and the kinds with no field
  */
@@ -154,7 +168,7 @@ size_t tusweram_encode(size_t kind, uint8_t byte, int32_t first, int32_t second,
                        size_t two_len, uint8_t *out, size_t out_len);
 
 /* A message of a kind with lists. Values are given as lengths (-1 for NULL) and their joined bytes, an error's fields as codes, lengths and
- * joined texts:
+ * joined texts, a start-up packet's pairs as the lengths of names and values by turns and joined texts; a name is not empty:
  *
  *   PARSE                    one name, two query, words oids
  *   BIND                     one portal, two statement, formats, lengths and joined values, results result formats
@@ -162,6 +176,7 @@ size_t tusweram_encode(size_t kind, uint8_t byte, int32_t first, int32_t second,
  *   DATA_ROW                 lengths and joined values
  *   ERROR_RESPONSE, NOTICE_RESPONSE    one codes, words lengths, joined texts
  *   COPY_IN_RESPONSE, COPY_OUT_RESPONSE, COPY_BOTH_RESPONSE    format, formats
+ *   STARTUP                  words lengths, joined texts
  */
 size_t tusweram_encode_lists(size_t kind, int8_t format, const uint8_t *one, size_t one_len, const uint8_t *two, size_t two_len,
                              const uint8_t *joined, size_t joined_len, const uint32_t *words, size_t words_len, const int32_t *lengths,

@@ -1,11 +1,13 @@
 //! An encoder for each kind. It writes the frame at the start of `out`, answers how many bytes that is, and keeps every later byte; where it
 //! refuses, nothing is written.
 //!
-//! - Refusal 10: what is given cannot be written: a text with a zero byte, a list of more than 32,767 elements, and the like.
+//! - Refusal 10: what is given cannot be written: a text with a zero byte, a list of more than 32,767 elements where a count is written, and the
+//!   like.
 //! - Refusal 4: the frame would be above its kind's limit.
 //! - Refusal 9: `out` is too short.
 //!
-//! Values are given as `lengths` (-1 for NULL) and their `joined` bytes, an error's fields as `codes`, `lengths` and `joined` texts.
+//! Values are given as `lengths` (-1 for NULL) and their `joined` bytes, an error's fields as `codes`, `lengths` and `joined` texts, a
+//! start-up packet's pairs as `lengths`, of names and values by turns, and `joined` texts.
 //!
 //! ```
 //! use tusweram::encode;
@@ -216,4 +218,41 @@ pub fn ssl_response(response: SslResponse, out: &mut [u8]) -> Encoded {
 
 pub fn gss_enc_response(response: GssEncResponse, out: &mut [u8]) -> Encoded {
     plain(kind::GSS_ENC_RESPONSE, Plain { byte: response as u8, ..Plain::default() }, out)
+}
+
+/// The pairs come as `lengths`, of a name and its value by turns, and `joined`; a name is not empty. The protocol is 3.0.
+///
+/// ```
+/// use tusweram::encode;
+///
+/// let mut out = [0; 32];
+/// assert_eq!(encode::startup(&[4, 3], b"userbob", &mut out), Ok(18));
+/// assert_eq!(&out[..18], b"\0\0\0\x12\0\x03\0\0user\0bob\0\0");
+/// ```
+pub fn startup(lengths: &[u32], joined: &[u8], out: &mut [u8]) -> Encoded {
+    lists(kind::STARTUP, Lists { words: lengths, joined, ..Lists::default() }, out)
+}
+
+pub fn ssl_request(out: &mut [u8]) -> Encoded {
+    bare(kind::SSL_REQUEST, out)
+}
+
+pub fn gss_enc_request(out: &mut [u8]) -> Encoded {
+    bare(kind::GSS_ENC_REQUEST, out)
+}
+
+pub fn query(query: &[u8], out: &mut [u8]) -> Encoded {
+    plain(kind::QUERY, Plain { one: query, ..Plain::default() }, out)
+}
+
+pub fn terminate(out: &mut [u8]) -> Encoded {
+    bare(kind::TERMINATE, out)
+}
+
+pub fn parameter_status(name: &[u8], value: &[u8], out: &mut [u8]) -> Encoded {
+    plain(kind::PARAMETER_STATUS, Plain { one: name, two: value, ..Plain::default() }, out)
+}
+
+pub fn backend_key_data(pid: i32, secret_key: i32, out: &mut [u8]) -> Encoded {
+    plain(kind::BACKEND_KEY_DATA, Plain { first: pid, second: secret_key, ..Plain::default() }, out)
 }

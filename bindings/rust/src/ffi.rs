@@ -1,4 +1,4 @@
-//! The boundary itself: the library's nine functions, over numbers and slices, as safe functions. All `unsafe` code of the crate is here.
+//! The boundary itself: the library's ten functions, over numbers and slices, as safe functions. All `unsafe` code of the crate is here.
 //!
 //! The other modules give these numbers their names; a host needs this one only to see an answer as it is.
 //!
@@ -8,7 +8,7 @@
 //! |---|---|
 //! | 0 | the status: 0 there is an answer, 1 need-more, 2 refused |
 //! | 1, 2 | the refusal's number and place |
-//! | 3 | the bytes consumed; of [`value`], [`field`] and [`error_field`], the next place |
+//! | 3 | the bytes consumed; of [`value`], [`field`], [`error_field`] and [`pair`], the next place |
 //! | 4 | the kind, or the sort of an element |
 //! | 5 .. | its fields: a part as its start and length, a list as its start and count, a signed number as its 32 bits |
 
@@ -25,6 +25,7 @@ extern "C" {
     fn tusweram_value(frame: *const u8, frame_len: usize, at: usize, out: *mut usize);
     fn tusweram_field(frame: *const u8, frame_len: usize, at: usize, out: *mut usize);
     fn tusweram_error_field(frame: *const u8, frame_len: usize, at: usize, out: *mut usize);
+    fn tusweram_pair(frame: *const u8, frame_len: usize, at: usize, out: *mut usize);
     fn tusweram_data_row(
         buf: *const u8,
         buf_len: usize,
@@ -109,6 +110,11 @@ pub fn field(frame: &[u8], at: usize) -> Row {
 /// The field of an error or a notice at a place of a frame. At the zero byte that ends the list it reads on: go by the list's count.
 pub fn error_field(frame: &[u8], at: usize) -> Row {
     answer(|out| unsafe { tusweram_error_field(frame.as_ptr(), frame.len(), at, out) })
+}
+
+/// The pair of a start-up packet at a place of a frame. At the zero byte that ends the list it reads an empty name: go by the list's count.
+pub fn pair(frame: &[u8], at: usize) -> Row {
+    answer(|out| unsafe { tusweram_pair(frame.as_ptr(), frame.len(), at, out) })
 }
 
 /// The values of a DataRow, the buffer's first message: where each starts, and its length (-1 for NULL).

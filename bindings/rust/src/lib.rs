@@ -37,13 +37,13 @@ mod numbers;
 pub mod refusal;
 
 pub use encode::{Encoded, FieldDescription, Span};
-pub use lists::{ErrorField, ErrorFields, Field, Fields, Formats, Oids, Values};
+pub use lists::{ErrorField, ErrorFields, Field, Fields, Formats, Oids, Pairs, Values};
 pub use message::*;
 pub use refusal::Refusal;
 
 use numbers::{half, part, sort};
 
-/// What a buffer holds: messages of one side, a request to cancel, or the answer to a request for encryption.
+/// What a buffer holds: messages of one side, a client's first packet, or the answer to a request for encryption.
 #[derive(Clone, Copy, Debug, PartialEq, Eq, Hash)]
 #[repr(u8)]
 pub enum Mode {
@@ -51,15 +51,19 @@ pub enum Mode {
     Frontend = 0,
     /// Messages that a server sends.
     Backend = 1,
+    /// A first packet that can only be a request to cancel.
     CancelRequest = 2,
     SslResponse = 3,
     GssEncResponse = 4,
+    /// The packet that a connection begins with: a start-up packet, a request for encryption or a request to cancel. After the answer to a
+    /// request for encryption the client sends another.
+    FirstPacket = 5,
 }
 
 impl TryFrom<u8> for Mode {
     type Error = Refusal;
 
-    /// The mode of a number from 0 to 4; any other number is refusal 1.
+    /// The mode of a number from 0 to 5; any other number is refusal 1.
     fn try_from(number: u8) -> Result<Self, Refusal> {
         Ok(match number {
             0 => Mode::Frontend,
@@ -67,6 +71,7 @@ impl TryFrom<u8> for Mode {
             2 => Mode::CancelRequest,
             3 => Mode::SslResponse,
             4 => Mode::GssEncResponse,
+            5 => Mode::FirstPacket,
             _ => return Err(Refusal { number: refusal::MODE_UNKNOWN, place: 0 }),
         })
     }
@@ -91,6 +96,8 @@ pub enum Element<'a> {
     Value(&'a [u8]),
     Field(Field<'a>),
     ErrorField(ErrorField<'a>),
+    /// A name and its value.
+    Pair(&'a [u8], &'a [u8]),
     NeedMore,
     Refused(Refusal),
 }
@@ -172,6 +179,10 @@ pub fn element(mode: Mode, buf: &[u8], list: usize, number: usize) -> Element<'_
             sort::VALUE => Element::Value(part(buf, a, b)),
             sort::FIELD => Element::Field(Field::new(buf, &row)),
             sort::ERROR_FIELD => Element::ErrorField(ErrorField::new(buf, &row)),
+            sort::PAIR => {
+                let (name, value) = lists::pair(buf, &row);
+                Element::Pair(name, value)
+            }
             _ => Element::Refused(UNKNOWN),
         },
         Status::NeedMore => Element::NeedMore,

@@ -5,8 +5,9 @@
 //! | [`Oids`], [`Formats`] | one number read from the buffer, at a place that the library gave |
 //! | [`Values`] | one call, which reads the value's length |
 //! | [`Fields`], [`ErrorFields`] | one call, which reads the field's text to its zero byte, and its numbers |
+//! | [`Pairs`] | one call, which reads the name and the value to their zero bytes |
 //!
-//! A step begins at the place where the last one ended: a whole list is linear in its elements, and of fields in their bytes.
+//! A step begins at the place where the last one ended: a whole list is linear in its elements, and of fields and pairs in their bytes.
 
 use core::fmt;
 use core::iter::FusedIterator;
@@ -47,6 +48,19 @@ pub struct Fields<'a>(Walk<'a>);
 #[derive(Clone, Copy)]
 pub struct ErrorFields<'a>(Walk<'a>);
 
+/// A start-up packet's pairs of a name and a value, in the order of the packet; a name may stand there more than once.
+///
+/// ```
+/// use tusweram::{decode, Decoded, Message, Mode};
+///
+/// let packet = b"\0\0\0\x12\0\x03\0\0user\0bob\0\0";
+/// let Decoded::Record(Message::Startup(startup), 18) = decode(Mode::FirstPacket, packet) else { panic!() };
+/// assert!(startup.parameters.iter().eq([(&b"user"[..], &b"bob"[..])]));
+/// assert_eq!(startup.parameters.value(b"user"), Some(&b"bob"[..]));
+/// ```
+#[derive(Clone, Copy)]
+pub struct Pairs<'a>(Walk<'a>);
+
 /// One field of a RowDescription.
 #[derive(Clone, Copy, Debug, PartialEq, Eq)]
 pub struct Field<'a> {
@@ -85,6 +99,10 @@ pub struct FieldsIter<'a>(Walk<'a>);
 /// An iterator over [`ErrorFields`].
 #[derive(Clone)]
 pub struct ErrorFieldsIter<'a>(Walk<'a>);
+
+/// An iterator over [`Pairs`].
+#[derive(Clone)]
+pub struct PairsIter<'a>(Walk<'a>);
 
 // The elements of a list from a place on, as many as are left of its count.
 #[derive(Clone, Copy)]
@@ -139,53 +157,17 @@ impl<'a> Formats<'a> {
     }
 }
 
-impl<'a> Values<'a> {
-    pub(crate) fn new(frame: &'a [u8], start: usize, count: usize) -> Self {
-        Values(Walk { frame, at: start, left: count })
-    }
-
-    /// How many there are.
-    pub fn len(&self) -> usize {
-        self.0.left
-    }
-
-    pub fn iter(&self) -> ValuesIter<'a> {
-        ValuesIter(self.0)
-    }
-}
-
-impl<'a> Fields<'a> {
-    pub(crate) fn new(frame: &'a [u8], start: usize, count: usize) -> Self {
-        Fields(Walk { frame, at: start, left: count })
-    }
-
-    /// How many there are.
-    pub fn len(&self) -> usize {
-        self.0.left
-    }
-
-    pub fn iter(&self) -> FieldsIter<'a> {
-        FieldsIter(self.0)
-    }
-}
-
 impl<'a> ErrorFields<'a> {
-    pub(crate) fn new(frame: &'a [u8], start: usize, count: usize) -> Self {
-        ErrorFields(Walk { frame, at: start, left: count })
-    }
-
-    /// How many there are.
-    pub fn len(&self) -> usize {
-        self.0.left
-    }
-
-    pub fn iter(&self) -> ErrorFieldsIter<'a> {
-        ErrorFieldsIter(self.0)
-    }
-
     /// The text of the first field with a code, as `b'M'` for the message.
     pub fn text(&self, code: u8) -> Option<&'a [u8]> {
         self.iter().find(|field| field.code == code).map(|field| field.text)
+    }
+}
+
+impl<'a> Pairs<'a> {
+    /// The value of a name; of a name that stands there more than once the last one, as a server takes it.
+    pub fn value(&self, name: &[u8]) -> Option<&'a [u8]> {
+        self.iter().filter(|pair| pair.0 == name).last().map(|pair| pair.1)
     }
 }
 
@@ -211,6 +193,16 @@ impl<'a> ErrorField<'a> {
     }
 }
 
+fn value<'a>(frame: &'a [u8], row: &ffi::Row) -> Option<&'a [u8]> {
+    let [_, _, _, _, found, start, len, ..] = *row;
+    (found == sort::VALUE).then(|| part(frame, start, len))
+}
+
+pub(crate) fn pair<'a>(frame: &'a [u8], row: &ffi::Row) -> (&'a [u8], &'a [u8]) {
+    let [_, _, _, _, _, name, name_len, value, value_len, ..] = *row;
+    (part(frame, name, name_len), part(frame, value, value_len))
+}
+
 impl<'a> Iterator for OidsIter<'a> {
     type Item = u32;
 
@@ -234,45 +226,6 @@ impl<'a> Iterator for FormatsIter<'a> {
 
     fn size_hint(&self) -> (usize, Option<usize>) {
         self.0.size_hint()
-    }
-}
-
-impl<'a> Iterator for ValuesIter<'a> {
-    type Item = Option<&'a [u8]>;
-
-    fn next(&mut self) -> Option<Option<&'a [u8]>> {
-        let [_, _, _, _, found, start, len, ..] = self.0.step(ffi::value)?;
-        Some((found == sort::VALUE).then(|| part(self.0.frame, start, len)))
-    }
-
-    fn size_hint(&self) -> (usize, Option<usize>) {
-        (self.0.left, Some(self.0.left))
-    }
-}
-
-impl<'a> Iterator for FieldsIter<'a> {
-    type Item = Field<'a>;
-
-    fn next(&mut self) -> Option<Field<'a>> {
-        let row = self.0.step(ffi::field)?;
-        Some(Field::new(self.0.frame, &row))
-    }
-
-    fn size_hint(&self) -> (usize, Option<usize>) {
-        (self.0.left, Some(self.0.left))
-    }
-}
-
-impl<'a> Iterator for ErrorFieldsIter<'a> {
-    type Item = ErrorField<'a>;
-
-    fn next(&mut self) -> Option<ErrorField<'a>> {
-        let row = self.0.step(ffi::error_field)?;
-        Some(ErrorField::new(self.0.frame, &row))
-    }
-
-    fn size_hint(&self) -> (usize, Option<usize>) {
-        (self.0.left, Some(self.0.left))
     }
 }
 
@@ -316,6 +269,43 @@ macro_rules! list {
 
 list!(Oids, OidsIter, u32);
 list!(Formats, FormatsIter, i16);
-list!(Values, ValuesIter, Option<&'a [u8]>);
-list!(Fields, FieldsIter, Field<'a>);
-list!(ErrorFields, ErrorFieldsIter, ErrorField<'a>);
+
+// A list that is walked by a call for each element, with what is made of the call's answer.
+macro_rules! walked {
+    ($list:ident, $iter:ident, $item:ty, $read:path, $made:expr) => {
+        impl<'a> $list<'a> {
+            pub(crate) fn new(frame: &'a [u8], start: usize, count: usize) -> Self {
+                $list(Walk { frame, at: start, left: count })
+            }
+
+            /// How many there are.
+            pub fn len(&self) -> usize {
+                self.0.left
+            }
+
+            pub fn iter(&self) -> $iter<'a> {
+                $iter(self.0)
+            }
+        }
+
+        impl<'a> Iterator for $iter<'a> {
+            type Item = $item;
+
+            fn next(&mut self) -> Option<$item> {
+                let row = self.0.step($read)?;
+                Some($made(self.0.frame, &row))
+            }
+
+            fn size_hint(&self) -> (usize, Option<usize>) {
+                (self.0.left, Some(self.0.left))
+            }
+        }
+
+        list!($list, $iter, $item);
+    };
+}
+
+walked!(Values, ValuesIter, Option<&'a [u8]>, ffi::value, value);
+walked!(Fields, FieldsIter, Field<'a>, ffi::field, Field::new);
+walked!(ErrorFields, ErrorFieldsIter, ErrorField<'a>, ffi::error_field, ErrorField::new);
+walked!(Pairs, PairsIter, (&'a [u8], &'a [u8]), ffi::pair, pair);

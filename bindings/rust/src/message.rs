@@ -2,7 +2,7 @@
 //! text stands for pgwire's `None`.
 
 use crate::ffi::Row;
-use crate::lists::{ErrorFields, Fields, Formats, Oids, Values};
+use crate::lists::{ErrorFields, Fields, Formats, Oids, Pairs, Values};
 use crate::numbers::{part, word};
 
 /// The target of Close and Describe: a prepared statement.
@@ -49,6 +49,13 @@ pub(crate) mod kind {
     pub const CANCEL_REQUEST: usize = 28;
     pub const SSL_RESPONSE: usize = 29;
     pub const GSS_ENC_RESPONSE: usize = 30;
+    pub const STARTUP: usize = 31;
+    pub const SSL_REQUEST: usize = 32;
+    pub const GSS_ENC_REQUEST: usize = 33;
+    pub const QUERY: usize = 34;
+    pub const TERMINATE: usize = 35;
+    pub const PARAMETER_STATUS: usize = 36;
+    pub const BACKEND_KEY_DATA: usize = 37;
 }
 
 /// A message that borrows from the buffer it was read from.
@@ -84,6 +91,13 @@ pub enum Message<'a> {
     CancelRequest(CancelRequest),
     SslResponse(SslResponse),
     GssEncResponse(GssEncResponse),
+    Startup(Startup<'a>),
+    SslRequest,
+    GssEncRequest,
+    Query(Query<'a>),
+    Terminate,
+    ParameterStatus(ParameterStatus<'a>),
+    BackendKeyData(BackendKeyData),
 }
 
 /// A query to be prepared under a name, with the types of its parameters.
@@ -229,6 +243,32 @@ pub enum GssEncResponse {
     Refuse,
 }
 
+/// Begins a session under protocol 3.0, with the names and values of its settings, as `user` and `database`.
+#[derive(Clone, Copy, Debug, PartialEq, Eq)]
+pub struct Startup<'a> {
+    pub parameters: Pairs<'a>,
+}
+
+/// A query to be run at once.
+#[derive(Clone, Copy, Debug, PartialEq, Eq)]
+pub struct Query<'a> {
+    pub query: &'a [u8],
+}
+
+/// A setting of the server, and its value now.
+#[derive(Clone, Copy, Debug, PartialEq, Eq)]
+pub struct ParameterStatus<'a> {
+    pub name: &'a [u8],
+    pub value: &'a [u8],
+}
+
+/// What a request to cancel this connection's query must name.
+#[derive(Clone, Copy, Debug, PartialEq, Eq)]
+pub struct BackendKeyData {
+    pub pid: i32,
+    pub secret_key: i32,
+}
+
 impl SslResponse {
     fn new(number: usize) -> Self {
         if number == SslResponse::Accept as usize {
@@ -298,6 +338,13 @@ impl<'a> Message<'a> {
             kind::CANCEL_REQUEST => Message::CancelRequest(CancelRequest { pid: word(a), secret_key: word(b) }),
             kind::SSL_RESPONSE => Message::SslResponse(SslResponse::new(a)),
             kind::GSS_ENC_RESPONSE => Message::GssEncResponse(GssEncResponse::new(a)),
+            kind::STARTUP => Message::Startup(Startup { parameters: Pairs::new(frame, a, b) }),
+            kind::SSL_REQUEST => Message::SslRequest,
+            kind::GSS_ENC_REQUEST => Message::GssEncRequest,
+            kind::QUERY => Message::Query(Query { query: part(frame, a, b) }),
+            kind::TERMINATE => Message::Terminate,
+            kind::PARAMETER_STATUS => Message::ParameterStatus(ParameterStatus { name: part(frame, a, b), value: part(frame, c, d) }),
+            kind::BACKEND_KEY_DATA => Message::BackendKeyData(BackendKeyData { pid: word(a), secret_key: word(b) }),
             _ => return None,
         };
         Some(message)

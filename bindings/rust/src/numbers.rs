@@ -7,6 +7,7 @@ pub mod sort {
     pub const VALUE: usize = 4;
     pub const FIELD: usize = 5;
     pub const ERROR_FIELD: usize = 6;
+    pub const PAIR: usize = 7;
 }
 
 /// A part of a buffer; what reaches outside it is the empty part.

@@ -2,9 +2,9 @@
 
 use core::fmt;
 
-/// The mode is none of 0 to 4.
+/// The mode is none of 0 to 5.
 pub const MODE_UNKNOWN: u8 = 1;
-/// The type byte, the answer byte or the cancel code is none of the mode's; encoding: no such kind.
+/// The type byte, the answer byte or the code is none of the mode's; encoding: no such kind.
 pub const TYPE_UNKNOWN: u8 = 2;
 /// The length is below the kind's smallest length.
 pub const LENGTH_TOO_SMALL: u8 = 3;
@@ -48,7 +48,7 @@ impl Refusal {
     pub fn what(&self) -> &'static str {
         match self.number {
             MODE_UNKNOWN => "the mode is unknown",
-            TYPE_UNKNOWN => "the type byte, answer byte or cancel code is unknown",
+            TYPE_UNKNOWN => "the type byte, answer byte or code is unknown",
             LENGTH_TOO_SMALL => "the length is too small",
             LENGTH_ABOVE_LIMIT => "the length is above the kind's limit",
             BAD_COUNT => "a count is negative, or too large for the frame",

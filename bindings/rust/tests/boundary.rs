@@ -7,6 +7,7 @@ const ROW: &[u8] = b"D\0\0\0\x10\0\x02\0\0\0\x02ab\xff\xff\xff\xff";
 const FIELDS: &[u8] = b"T\0\0\0\x2d\0\x02a\0\0\0\0\x02\0\x03\0\0\0\x04\0\x05\xff\xff\xff\xff\0\x01\
     \0\x80\0\0\0\xff\xfe\xff\xff\xff\xff\xff\xff\0\0\0\x07\xff\xfd";
 const ERRORS: &[u8] = b"E\0\0\0\x0aSx\0M\0\0";
+const STARTUP: &[u8] = b"\0\0\0\x16\0\x03\0\0user\0bob\0xy\0\0\0";
 const BIND: &[u8] = b"B\0\0\0\x15\0\0\0\x01\xff\xfe\0\x01\0\0\0\x01a\0\x01\0\x01";
 
 fn row(numbers: &[usize]) -> ffi::Row {
@@ -21,7 +22,8 @@ fn decode() {
     assert_eq!(ffi::decode(1, &ROW[..16]), row(&[1]));
     assert_eq!(ffi::decode(0, b""), row(&[1]));
     assert_eq!(ffi::decode(1, b"C\0\0\0\x06OK"), row(&[2, 6, 5]));
-    for mode in 5..=255 {
+    assert_eq!(ffi::decode(5, STARTUP), row(&[0, 0, 0, 22, 31, 8, 2]));
+    for mode in 6..=255 {
         assert_eq!(ffi::decode(mode, ROW), row(&[2, 1, 0]));
     }
 }
@@ -37,6 +39,8 @@ fn element() {
     let field = b"T\0\0\0\x1a\0\x01a\0\0\0\0\x02\0\x03\0\0\0\x04\0\x05\xff\xff\xff\xff\0\x01";
     assert_eq!(ffi::element(1, field, 0, 0), row(&[0, 0, 0, 0, 5, 7, 1, 2, 3, 4, 5, 4294967295, 1]));
     assert_eq!(ffi::element(1, b"E\0\0\0\x08Sx\0\0", 0, 0), row(&[0, 0, 0, 0, 6, 83, 6, 1]));
+    assert_eq!(ffi::element(5, STARTUP, 0, 0), row(&[0, 0, 0, 0, 7, 8, 4, 13, 3]));
+    assert_eq!(ffi::element(5, STARTUP, 0, 1), row(&[0, 0, 0, 0, 7, 17, 2, 20, 0]));
     assert_eq!(ffi::element(1, &ROW[..16], 0, 0), row(&[1]));
     for (list, number) in [(0, 2), (0, usize::MAX), (1, 0), (usize::MAX, 0)] {
         assert_eq!(ffi::element(1, ROW, list, number), row(&[2, 11, 0]));
@@ -98,6 +102,25 @@ fn error_field() {
 }
 
 #[test]
+fn pair() {
+    assert_eq!(ffi::pair(STARTUP, 8), row(&[0, 0, 0, 17, 7, 8, 4, 13, 3]));
+    assert_eq!(ffi::pair(STARTUP, 17), row(&[0, 0, 0, 21, 7, 17, 2, 20, 0]));
+    // the list's end is a name as any other: here no value follows it, and here one does
+    assert_eq!(ffi::pair(STARTUP, 21), row(&[2, 6, 22]));
+    assert_eq!(ffi::pair(b"\0ab\0", 0), row(&[0, 0, 0, 4, 7, 0, 0, 1, 2]));
+    // cut: no name, no zero byte behind it, no value, no zero byte behind that
+    for n in 0..17 {
+        let place = if n < 13 { 8 } else { 13 };
+        assert_eq!(ffi::pair(&STARTUP[..n], 8), row(&[2, 6, place]), "cut to {n}");
+    }
+    for at in [22, 23, usize::MAX / 2, usize::MAX - 1, usize::MAX] {
+        assert_eq!(ffi::pair(STARTUP, at), row(&[2, 6, at]));
+        assert_eq!(ffi::pair(b"", at), row(&[2, 6, at]));
+    }
+    assert_eq!(ffi::pair(b"", 0), row(&[2, 6, 0]));
+}
+
+#[test]
 fn data_row() {
     let (mut starts, mut lengths) = ([5; 3], [6; 3]);
     assert_eq!(ffi::data_row(ROW, &mut starts, &mut lengths), row(&[0, 0, 0, 17, 19, 7, 2]));
@@ -122,13 +145,25 @@ fn encode() {
     assert_eq!(out[..17], *b"\0\0\0\x10\x04\xd2\x16\x2e\0\0\0\x07\0\0\0\x09\x01");
     assert_eq!(ffi::encode(27, given, &mut out), 15);
     assert_eq!(out[..16], *b"A\0\0\0\x0e\0\0\0\x07on\0tw\0\x09");
+    assert_eq!(ffi::encode(32, given, &mut out), 8);
+    assert_eq!(out[..9], *b"\0\0\0\x08\x04\xd2\x16\x2f\x07");
+    assert_eq!(ffi::encode(33, given, &mut out), 8);
+    assert_eq!(out[..9], *b"\0\0\0\x08\x04\xd2\x16\x30\x07");
+    assert_eq!(ffi::encode(34, given, &mut out), 8);
+    assert_eq!(out[..9], *b"Q\0\0\0\x07on\0\x07");
+    assert_eq!(ffi::encode(35, given, &mut out), 5);
+    assert_eq!(out[..6], *b"X\0\0\0\x04o");
+    assert_eq!(ffi::encode(36, given, &mut out), 11);
+    assert_eq!(out[..12], *b"S\0\0\0\x0aon\0tw\0\0");
+    assert_eq!(ffi::encode(37, given, &mut out), 13);
+    assert_eq!(out[..14], *b"K\0\0\0\x0c\0\0\0\x07\0\0\0\x09w");
     assert_eq!(ffi::encode(21, given, &mut out), 6);
     assert_eq!(out[..6], *b"Z\0\0\0\x05I");
     assert_eq!(ffi::encode(7, given, &mut out), 5);
     assert_eq!(out[..6], *b"S\0\0\0\x04I");
     let before = out;
     // no such kind here (255 will be none: kinds have small numbers, one after another); no such answer byte; no such target
-    for (kind, number) in [(0, 2), (1, 2), (2, 2), (17, 2), (19, 2), (255, 2), (usize::MAX, 2), (29, 2), (30, 2), (3, 10)] {
+    for (kind, number) in [(0, 2), (1, 2), (2, 2), (17, 2), (19, 2), (31, 2), (255, 2), (usize::MAX, 2), (29, 2), (30, 2), (3, 10)] {
         assert_eq!(ffi::encode(kind, given, &mut out), usize::MAX - number, "kind {kind}");
     }
     assert_eq!(ffi::encode(27, given, &mut out[..14]), usize::MAX - 9);
@@ -157,8 +192,12 @@ fn encode_lists() {
         assert_eq!(ffi::encode_lists(kind, given, &mut out), 10);
         assert_eq!(out[..10], [&[byte][..], b"\0\0\0\x09\xfe\0\x01\xff\xfd"].concat());
     }
+    assert_eq!(ffi::encode_lists(31, Lists { words: &[1, 2], ..given }, &mut out), 14);
+    assert_eq!(out[..14], *b"\0\0\0\x0e\0\x03\0\0a\0bc\0\0");
     let before = out;
-    for kind in [0, 3, 16, 17, 20, 21, 27, 30, usize::MAX] {
+    // an odd number of lengths
+    assert_eq!(ffi::encode_lists(31, given, &mut out), usize::MAX - 10);
+    for kind in [0, 3, 16, 17, 20, 21, 27, 30, 32, 33, 34, 35, 36, 37, usize::MAX] {
         assert_eq!(ffi::encode_lists(kind, given, &mut out), usize::MAX - 2, "kind {kind}");
     }
     assert_eq!(ffi::encode_lists(2, given, &mut out[..37]), usize::MAX - 9);

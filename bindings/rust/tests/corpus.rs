@@ -1,12 +1,12 @@
-//! Real traffic: every frame that is in scope decodes, all its values can be walked, and written again it has the same bytes. The streams are
-//! in PG_CORPUS, else in shared/corpus beside the repository.
+//! Real traffic, each stream from its first byte: every frame that is in scope decodes, all its values can be walked, and written again it has
+//! the same bytes. The streams are in PG_CORPUS, else in shared/corpus beside the repository.
 
 mod common;
 
 use std::fs;
 use std::path::{Path, PathBuf};
 
-use common::{is_kind, round_trip};
+use common::{is_coded, is_kind, round_trip};
 use tusweram::*;
 
 fn folder() -> PathBuf {
@@ -16,11 +16,11 @@ fn folder() -> PathBuf {
     }
 }
 
-/// Whether the frame is of a kind that is read here. Of the client's start-up packets, only a request to cancel is.
+/// Whether the frame is of a kind that is read here. Authentication is not, nor a start-up packet of another protocol than 3.0.
 fn in_scope(mode: Mode, frame: &[u8]) -> bool {
     match mode {
         Mode::Frontend | Mode::Backend => is_kind(mode, frame[0]),
-        Mode::CancelRequest => frame.len() == 16 && frame[4..8] == 80877102u32.to_be_bytes(),
+        Mode::FirstPacket => is_coded(mode, word(&frame[4..]) as u32),
         _ => true,
     }
 }
@@ -29,13 +29,13 @@ fn word(bytes: &[u8]) -> usize {
     u32::from_be_bytes(bytes[..4].try_into().unwrap()) as usize
 }
 
-/// A stream by its own length words. The client's start-up packets have no type byte, and an answer to a request for encryption is one byte.
+/// A stream by its own length words. The client's first packets have no type byte, and an answer to a request for encryption is one byte.
 fn frames(stream: &[u8], front: bool) -> Vec<(Mode, &[u8])> {
     let mut rest = stream;
     let mut frames = Vec::new();
     while !rest.is_empty() {
         let (mode, n) = match (front, rest) {
-            (true, [0, ..]) => (Mode::CancelRequest, word(rest)),
+            (true, [0, ..]) => (Mode::FirstPacket, word(rest)),
             (false, [b'S' | b'N', next, ..]) if *next != 0 => (Mode::SslResponse, 1),
             (true, _) => (Mode::Frontend, 1 + word(&rest[1..])),
             (false, _) => (Mode::Backend, 1 + word(&rest[1..])),
@@ -56,7 +56,7 @@ fn real_traffic() {
     let mut paths: Vec<_> = entries.map(|entry| entry.unwrap().path()).collect();
     paths.retain(|path| path.extension().is_some_and(|end| end == "bin"));
     paths.sort();
-    let (mut read, mut left, mut damaged, mut values) = (0, 0, 0, 0);
+    let (mut read, mut left, mut damaged, mut values, mut pairs) = (0, 0, 0, 0, 0);
     for path in &paths {
         let stream = fs::read(path).unwrap();
         let name = path.file_name().unwrap().to_string_lossy();
@@ -65,7 +65,7 @@ fn real_traffic() {
                 left += 1;
                 continue;
             }
-            // raw.1 was written by hand, with a frame that the server refused too
+            // raw.1 was written by hand, with two frames that the server refused too
             if name.starts_with("raw.") && matches!(decode(mode, frame), Decoded::Refused(_)) {
                 damaged += 1;
                 continue;
@@ -74,13 +74,14 @@ fn real_traffic() {
             match round_trip(mode, frame) {
                 Message::DataRow(row) => values += row.data.iter().count(),
                 Message::Bind(bind) => values += bind.parameters.iter().count(),
+                Message::Startup(startup) => pairs += startup.parameters.iter().count(),
                 _ => {}
             }
         }
     }
     println!(
-        "corpus: {read} frames of {} streams with {values} values; {left} of kinds that are not read here, {damaged} damaged by hand",
+        "corpus: {read} frames of {} streams with {values} values and {pairs} start-up pairs; {left} of kinds that are not read here, {damaged} damaged by hand",
         paths.len()
     );
-    assert!(read > 0 && values > 0);
+    assert!(read > 0 && values > 0 && pairs > 0);
 }

@@ -153,6 +153,7 @@ fn kinds_without_fields() {
         (Mode::Backend, b's', 14, encode::portal_suspended, Message::PortalSuspended),
         (Mode::Backend, b'n', 15, encode::no_data, Message::NoData),
         (Mode::Backend, b'I', 16, encode::empty_query_response, Message::EmptyQueryResponse),
+        (Mode::Frontend, b'X', 35, encode::terminate, Message::Terminate),
     ];
     for &(mode, byte, number, write, message) in table {
         assert_eq!(kind(mode, &[byte, 0, 0, 0, 4], &[number], write), message);
@@ -306,13 +307,76 @@ fn notification_response() {
 
 #[test]
 fn cancel_request() {
-    let frame = b"\0\0\0\x10\x04\xd2\x16\x2e\0\0\0\x07\0\0\0\x09";
-    let m = kind(Mode::CancelRequest, &frame[..], &[28, 7, 9], |out| encode::cancel_request(7, 9, out));
-    assert_eq!(m, Message::CancelRequest(CancelRequest { pid: 7, secret_key: 9 }));
-    let frame = b"\0\0\0\x10\x04\xd2\x16\x2e\xff\xff\xff\xff\x80\0\0\0";
-    let numbers = [28, 4294967295, 2147483648];
-    let m = kind(Mode::CancelRequest, &frame[..], &numbers, |out| encode::cancel_request(-1, i32::MIN, out));
-    assert_eq!(m, Message::CancelRequest(CancelRequest { pid: -1, secret_key: i32::MIN }));
+    for mode in [Mode::CancelRequest, Mode::FirstPacket] {
+        let frame = b"\0\0\0\x10\x04\xd2\x16\x2e\0\0\0\x07\0\0\0\x09";
+        let m = kind(mode, &frame[..], &[28, 7, 9], |out| encode::cancel_request(7, 9, out));
+        assert_eq!(m, Message::CancelRequest(CancelRequest { pid: 7, secret_key: 9 }));
+        let frame = b"\0\0\0\x10\x04\xd2\x16\x2e\xff\xff\xff\xff\x80\0\0\0";
+        let numbers = [28, 4294967295, 2147483648];
+        let m = kind(mode, &frame[..], &numbers, |out| encode::cancel_request(-1, i32::MIN, out));
+        assert_eq!(m, Message::CancelRequest(CancelRequest { pid: -1, secret_key: i32::MIN }));
+    }
+}
+
+#[test]
+fn startup() {
+    let frame = b"\0\0\0\x12\0\x03\0\0user\0bob\0\0";
+    let m = kind(Mode::FirstPacket, &frame[..], &[31, 8, 1], |out| encode::startup(&[4, 3], b"userbob", out));
+    let Message::Startup(m) = m else { panic!("{m:?}") };
+    assert!(m.parameters.iter().eq([(&b"user"[..], &b"bob"[..])]));
+    assert_eq!((m.parameters.value(b"user"), m.parameters.value(b"use")), (Some(&b"bob"[..]), None));
+    // parts of the caller's buffer itself
+    let (name, value) = m.parameters.iter().next().unwrap();
+    assert_eq!((name.as_ptr(), value.as_ptr()), (frame[8..].as_ptr(), frame[13..].as_ptr()));
+    // order is kept, also of one name twice; a value may be empty
+    let frame = b"\0\0\0\x13\0\x03\0\0b\0x\0a\0\0b\0\0\0";
+    let m = kind(Mode::FirstPacket, &frame[..], &[31, 8, 3], |out| encode::startup(&[1, 1, 1, 0, 1, 0], b"bxab", out));
+    let Message::Startup(m) = m else { panic!("{m:?}") };
+    assert!(m.parameters.iter().eq([(&b"b"[..], &b"x"[..]), (b"a", b""), (b"b", b"")]));
+    assert_eq!((m.parameters.len(), m.parameters.iter().len(), m.parameters.is_empty()), (3, 3, false));
+    assert_eq!(m.parameters.value(b"b"), Some(&b""[..]));
+    // the list starts at 8, also where it is empty
+    let m = kind(Mode::FirstPacket, b"\0\0\0\x09\0\x03\0\0\0", &[31, 8, 0], |out| encode::startup(&[], b"", out));
+    let Message::Startup(m) = m else { panic!("{m:?}") };
+    assert!(m.parameters.is_empty() && m.parameters.iter().next().is_none());
+    // its length counts all its bytes, where a type byte is not counted: one fewer than `text` takes for
+    text(SMALL - 1, |value, out| encode::startup(&[1, value.len() as u32], &[b"n", value].concat(), out));
+    text(SMALL - 1, |name, out| encode::startup(&[1 + name.len() as u32, 0], &[b"n", name].concat(), out));
+}
+
+#[test]
+fn requests_for_encryption() {
+    let m = kind(Mode::FirstPacket, b"\0\0\0\x08\x04\xd2\x16\x2f", &[32], encode::ssl_request);
+    assert_eq!(m, Message::SslRequest);
+    let m = kind(Mode::FirstPacket, b"\0\0\0\x08\x04\xd2\x16\x30", &[33], encode::gss_enc_request);
+    assert_eq!(m, Message::GssEncRequest);
+}
+
+#[test]
+fn query() {
+    let m = kind(Mode::Frontend, b"Q\0\0\0\x0dselect 1\0", &[34, 5, 8], |out| encode::query(b"select 1", out));
+    assert_eq!(m, Message::Query(Query { query: b"select 1" }));
+    let m = kind(Mode::Frontend, b"Q\0\0\0\x05\0", &[34, 5, 0], |out| encode::query(b"", out));
+    assert_eq!(m, Message::Query(Query { query: b"" }));
+    text(SMALL, encode::query);
+}
+
+#[test]
+fn parameter_status() {
+    let m = kind(Mode::Backend, b"S\0\0\0\x09a\0bc\0", &[36, 5, 1, 7, 2], |out| encode::parameter_status(b"a", b"bc", out));
+    assert_eq!(m, Message::ParameterStatus(ParameterStatus { name: b"a", value: b"bc" }));
+    let m = kind(Mode::Backend, b"S\0\0\0\x06\0\0", &[36, 5, 0, 6, 0], |out| encode::parameter_status(b"", b"", out));
+    assert_eq!(m, Message::ParameterStatus(ParameterStatus { name: b"", value: b"" }));
+    text(SMALL, |name, out| encode::parameter_status(name, b"", out));
+    text(SMALL, |value, out| encode::parameter_status(b"", value, out));
+}
+
+#[test]
+fn backend_key_data() {
+    let frame = b"K\0\0\0\x0c\xff\xff\xff\xfe\x80\0\0\x01";
+    let numbers = [37, 4294967294, 2147483649];
+    let m = kind(Mode::Backend, &frame[..], &numbers, |out| encode::backend_key_data(-2, i32::MIN + 1, out));
+    assert_eq!(m, Message::BackendKeyData(BackendKeyData { pid: -2, secret_key: i32::MIN + 1 }));
 }
 
 #[test]
@@ -336,6 +400,11 @@ fn the_largest_frames() {
     frame[..5].copy_from_slice(b"C\0\0\x20\0");
     frame[8192] = 0;
     round_trip(Mode::Backend, &frame);
+    let mut frame = vec![b'x'; 8192];
+    frame[..8].copy_from_slice(b"\0\0\x20\0\0\x03\0\0");
+    frame[4000] = 0;
+    frame[8190..].fill(0);
+    round_trip(Mode::FirstPacket, &frame);
     // as many values as a count can say
     let lengths = [-1; 32767];
     let mut out = vec![0; 131075];

@@ -4,8 +4,8 @@
 mod common;
 
 use common::kinds::Part::{self, *};
-use common::kinds::KINDS;
-use common::round_trip;
+use common::kinds::{CODED, KINDS};
+use common::{round_trip, set_length};
 use tusweram::*;
 
 /// splitmix64: the same frames everywhere.
@@ -48,6 +48,15 @@ fn text(r: &mut Random, out: &mut Vec<u8>) {
     out.push(0);
 }
 
+/// Items until a zero byte stands in place of one: no item begins with it, so a byte that is not zero stands before its texts.
+fn ended(r: &mut Random, texts: &[Part], out: &mut Vec<u8>) {
+    for _ in 0..r.below(6) {
+        out.push(1 + r.below(255) as u8);
+        parts(r, texts, out);
+    }
+    out.push(0);
+}
+
 fn part(r: &mut Random, part: Part, out: &mut Vec<u8>) {
     match part {
         Text => text(r, out),
@@ -68,13 +77,8 @@ fn part(r: &mut Random, part: Part, out: &mut Vec<u8>) {
             out.extend_from_slice(&(n as u32).to_be_bytes());
             bytes(r, n, out)
         }
-        Errors => {
-            for _ in 0..r.below(6) {
-                out.push(1 + r.below(255) as u8);
-                text(r, out);
-            }
-            out.push(0);
-        }
+        Errors => ended(r, &[Text], out),
+        Pairs => ended(r, &[Text, Text], out),
     }
 }
 
@@ -82,11 +86,19 @@ fn parts(r: &mut Random, body: &[Part], out: &mut Vec<u8>) {
     body.iter().for_each(|p| part(r, *p, out));
 }
 
-fn frame(r: &mut Random, type_byte: u8, body: &[Part]) -> Vec<u8> {
-    let mut out = vec![type_byte, 0, 0, 0, 0];
+/// A kind: its mode, its header with no length yet, and its body.
+type Row = (Mode, Vec<u8>, &'static [Part]);
+
+fn rows() -> Vec<Row> {
+    let typed = KINDS.iter().map(|&(mode, byte, body)| (mode, vec![byte, 0, 0, 0, 0], body));
+    let coded = CODED.iter().map(|&(mode, code, body)| (mode, [[0; 4], code.to_be_bytes()].concat(), body));
+    typed.chain(coded).collect()
+}
+
+fn frame(r: &mut Random, (mode, header, body): &Row) -> Vec<u8> {
+    let mut out = header.clone();
     parts(r, body, &mut out);
-    let length = out.len() as u32 - 1;
-    out[1..5].copy_from_slice(&length.to_be_bytes());
+    set_length(*mode, &mut out);
     out
 }
 
@@ -97,58 +109,67 @@ fn cases() -> usize {
 #[test]
 fn round_trips() {
     let mut r = Random(1);
-    for &(mode, type_byte, body) in KINDS {
+    for row in rows() {
         for _ in 0..cases() {
-            round_trip(mode, &frame(&mut r, type_byte, body));
+            round_trip(row.0, &frame(&mut r, &row));
         }
-    }
-    for _ in 0..cases() {
-        let mut cancel = b"\0\0\0\x10\x04\xd2\x16\x2e".to_vec();
-        bytes(&mut r, 8, &mut cancel);
-        round_trip(Mode::CancelRequest, &cancel);
     }
 }
 
-/// A changed byte, a cut with the length mended, or bytes at random: whatever is answered, its parts and lists can be walked, and what is
-/// taken is written again as it was.
+/// A changed byte, a cut with the length mended, or a header with bytes at random behind it.
+fn damaged(r: &mut Random, row: &Row) -> Vec<u8> {
+    let mut buf = frame(r, row);
+    let header = row.1.len();
+    match r.below(3) {
+        0 => {
+            let at = r.below(buf.len());
+            buf[at] = r.next() as u8;
+        }
+        1 => {
+            buf.truncate(r.below(buf.len() + 1).max(header));
+            set_length(row.0, &mut buf);
+        }
+        _ => {
+            buf.truncate(header);
+            let n = r.below(40);
+            bytes(r, n, &mut buf);
+            set_length(row.0, &mut buf);
+        }
+    }
+    buf
+}
+
+/// The calls that are given a place: what is there is inside the buffer and in order, and what is not is refused at the place or behind it.
+fn at_a_place(buf: &[u8], at: usize) {
+    let [status, number, place, next, _, start, len, ..] = ffi::value(buf, at);
+    assert!(if status == 0 { next <= buf.len() && start + len <= next } else { number >= 6 && place == at });
+    let [status, number, place, next, _, start, len, ..] = ffi::field(buf, at);
+    assert!(if status == 0 { next <= buf.len() && start + len + 19 == next } else { number == 6 && place >= at });
+    let [status, number, place, next, _, _, start, len, ..] = ffi::error_field(buf, at);
+    assert!(if status == 0 { next <= buf.len() && start + len + 1 == next } else { number == 6 && place >= at });
+    let [status, number, place, next, _, name, name_len, value, value_len, ..] = ffi::pair(buf, at);
+    let in_order = name == at && name + name_len + 1 == value && value + value_len + 1 == next;
+    assert!(if status == 0 { next <= buf.len() && in_order } else { number == 6 && place >= at });
+}
+
+/// Whatever is answered of a damaged frame, its parts and lists can be walked, and what is taken is written again as it was.
 #[test]
 fn damage() {
     let mut r = Random(2);
     let mut taken = 0;
-    for i in 0..cases() * KINDS.len() {
-        let (mode, type_byte, body) = KINDS[i % KINDS.len()];
-        let mut buf = frame(&mut r, type_byte, body);
-        match r.below(3) {
-            0 => {
-                let at = r.below(buf.len());
-                buf[at] = r.next() as u8;
-            }
-            1 => {
-                buf.truncate(r.below(buf.len() + 1).max(5));
-                let length = buf.len() as u32 - 1;
-                buf[1..5].copy_from_slice(&length.to_be_bytes());
-            }
-            _ => {
-                buf.truncate(5);
-                let n = buf[4] as usize % 40;
-                buf[4] = n as u8 + 4;
-                bytes(&mut r, n, &mut buf);
-            }
-        }
-        if let Decoded::Record(_, n) = decode(mode, &buf) {
-            round_trip(mode, &buf[..n]);
+    let rows = rows();
+    for i in 0..cases() * rows.len() {
+        let row = &rows[i % rows.len()];
+        let buf = damaged(&mut r, row);
+        if let Decoded::Record(_, n) = decode(row.0, &buf) {
+            round_trip(row.0, &buf[..n]);
             taken += 1;
         }
-        for mode in [Mode::Frontend, Mode::Backend, Mode::CancelRequest, Mode::SslResponse, Mode::GssEncResponse] {
+        for mode in (0..=5).map(|number| Mode::try_from(number).unwrap()) {
             let _ = format!("{:?} {:?}", decode(mode, &buf), element(mode, &buf, r.below(4), r.below(8)));
         }
         for at in [r.below(buf.len() + 8), r.next() as usize] {
-            let [status, number, place, next, _, start, len, ..] = ffi::value(&buf, at);
-            assert!(if status == 0 { next <= buf.len() && start + len <= next } else { number >= 6 && place == at });
-            let [status, number, place, next, _, start, len, ..] = ffi::field(&buf, at);
-            assert!(if status == 0 { next <= buf.len() && start + len + 19 == next } else { number == 6 && place >= at });
-            let [status, number, place, next, _, _, start, len, ..] = ffi::error_field(&buf, at);
-            assert!(if status == 0 { next <= buf.len() && start + len + 1 == next } else { number == 6 && place >= at });
+            at_a_place(&buf, at);
         }
         let (mut starts, mut lengths) = ([0; 3], [0; 3]);
         let _ = data_row(&buf, &mut starts, &mut lengths);

@@ -24,10 +24,10 @@ fn waits(mode: Mode, text: &str) {
 
 #[test]
 fn refusal_1_mode_unknown() {
-    for number in 0..=4 {
+    for number in 0..=5 {
         assert_eq!(Mode::try_from(number).map(|mode| mode as u8), Ok(number));
     }
-    for number in 5..=255 {
+    for number in 6..=255 {
         let refusal = Mode::try_from(number).unwrap_err();
         assert_eq!((refusal.number, refusal.place), (1, 0));
         assert_eq!(ffi::decode(number, b"")[..3], [2, 1, 0]);
@@ -47,6 +47,15 @@ fn refusal_2_type_unknown() {
     refused(Mode::GssEncResponse, "53", 2, 0);
     refused(Mode::CancelRequest, "00 00 00 10 04 D2 16 2F", 2, 4);
     waits(Mode::CancelRequest, "00 00 00 10 04 D2 16");
+    // only a request to cancel has a code of mode 2
+    refused(Mode::CancelRequest, "00 00 00 09 00 03 00 00 00", 2, 4);
+    // before 8 bytes nothing is tested, and then the code is, whatever the length says
+    waits(Mode::FirstPacket, "00 00 00 00 00 00 00");
+    refused(Mode::FirstPacket, "00 00 00 00 00 00 00 00", 2, 4);
+    refused(Mode::FirstPacket, "FF FF FF FF 00 03 00 01", 2, 4);
+    refused(Mode::FirstPacket, "00 00 00 09 00 03 00 02 00", 2, 4);
+    refused(Mode::FirstPacket, "00 00 00 08 04 D2 16 31", 2, 4);
+    refused(Mode::FirstPacket, "00 00 00 10 04 D2 16 2D", 2, 4);
 }
 
 #[test]
@@ -57,6 +66,16 @@ fn refusal_3_length_too_small() {
     refused(Mode::Backend, "54 00 00 00 05", 3, 1);
     refused(Mode::CancelRequest, "00 00 00 0F 04 D2 16 2E", 3, 0);
     waits(Mode::Frontend, "53 00 00 00");
+    refused(Mode::Frontend, "51 00 00 00 04", 3, 1);
+    refused(Mode::Frontend, "58 00 00 00 03", 3, 1);
+    // Sync's bytes, from a server
+    refused(Mode::Backend, "53 00 00 00 04", 3, 1);
+    refused(Mode::Backend, "4B 00 00 00 0B", 3, 1);
+    refused(Mode::FirstPacket, "00 00 00 08 00 03 00 00", 3, 0);
+    refused(Mode::FirstPacket, "80 00 00 00 00 03 00 00", 3, 0);
+    refused(Mode::FirstPacket, "00 00 00 07 04 D2 16 2F", 3, 0);
+    refused(Mode::FirstPacket, "00 00 00 07 04 D2 16 30", 3, 0);
+    refused(Mode::FirstPacket, "00 00 00 0F 04 D2 16 2E", 3, 0);
 }
 
 #[test]
@@ -69,6 +88,14 @@ fn refusal_4_length_above_limit() {
     refused(Mode::Backend, "44 7F FF FF FF", 4, 1);
     refused(Mode::CancelRequest, "00 00 20 01 04 D2 16 2E", 4, 0);
     waits(Mode::CancelRequest, "00 00 20 00 04 D2 16 2E");
+    for code in ["00 03 00 00", "04 D2 16 2E", "04 D2 16 2F", "04 D2 16 30"] {
+        waits(Mode::FirstPacket, &format!("00 00 20 00 {code}"));
+        refused(Mode::FirstPacket, &format!("00 00 20 01 {code}"), 4, 0);
+    }
+    for (mode, byte) in [(Mode::Frontend, "51"), (Mode::Frontend, "58"), (Mode::Backend, "53"), (Mode::Backend, "4B")] {
+        waits(mode, &format!("{byte} 00 00 20 00"));
+        refused(mode, &format!("{byte} 00 00 20 01"), 4, 1);
+    }
 }
 
 #[test]
@@ -89,6 +116,20 @@ fn refusal_6_cut() {
     refused(Mode::Backend, "44 00 00 00 0B 00 01 00 00 00 02 61", 6, 7);
     refused(Mode::Backend, "45 00 00 00 08 53 61 00 4D", 6, 9);
     refused(Mode::Backend, "45 00 00 00 07 53 61 00", 6, 8);
+    refused(Mode::Frontend, "51 00 00 00 05 61", 6, 5);
+    refused(Mode::Backend, "53 00 00 00 06 61 62", 6, 5);
+    // a value that is missing begins at the frame's end
+    refused(Mode::Backend, "53 00 00 00 06 61 00", 6, 7);
+    refused(Mode::Backend, "53 00 00 00 06 61 00 00", 6, 7);
+    // a start-up packet: no zero byte ends the name; the value is missing; none ends the value; none ends the list; the second pair's value
+    refused(Mode::FirstPacket, "00 00 00 0A 00 03 00 00 61 62", 6, 8);
+    refused(Mode::FirstPacket, "00 00 00 0A 00 03 00 00 61 62 00 00 00", 6, 8);
+    refused(Mode::FirstPacket, "00 00 00 0A 00 03 00 00 61 00", 6, 10);
+    refused(Mode::FirstPacket, "00 00 00 0B 00 03 00 00 61 00 62", 6, 10);
+    refused(Mode::FirstPacket, "00 00 00 0B 00 03 00 00 61 00 62 00 00", 6, 10);
+    refused(Mode::FirstPacket, "00 00 00 0B 00 03 00 00 61 00 00", 6, 11);
+    refused(Mode::FirstPacket, "00 00 00 0B 00 03 00 00 61 00 00 00", 6, 11);
+    refused(Mode::FirstPacket, "00 00 00 0D 00 03 00 00 61 00 00 62 00", 6, 13);
 }
 
 #[test]
@@ -105,7 +146,21 @@ fn refusal_8_bytes_left() {
     refused(Mode::Frontend, "53 00 00 00 05 00", 8, 5);
     refused(Mode::Backend, "5A 00 00 00 06 49 00", 8, 6);
     refused(Mode::Backend, "45 00 00 00 06 00 53", 8, 6);
-    refused(Mode::CancelRequest, "00 00 00 11 04 D2 16 2E 00 00 00 07 00 00 00 09 00", 8, 16);
+    for mode in [Mode::CancelRequest, Mode::FirstPacket] {
+        refused(mode, "00 00 00 11 04 D2 16 2E 00 00 00 07 00 00 00 09 00", 8, 16);
+        waits(mode, "00 00 00 11 04 D2 16 2E 00 00 00 07 00 00 00 09");
+    }
+    for code in ["04 D2 16 2F", "04 D2 16 30"] {
+        refused(Mode::FirstPacket, &format!("00 00 00 09 {code} 00"), 8, 8);
+        waits(Mode::FirstPacket, &format!("00 00 00 09 {code}"));
+    }
+    // a zero byte in a name's place ends the list
+    refused(Mode::FirstPacket, "00 00 00 0A 00 03 00 00 00 00", 8, 9);
+    refused(Mode::FirstPacket, "00 00 00 0E 00 03 00 00 61 00 00 00 62 00", 8, 12);
+    refused(Mode::Frontend, "51 00 00 00 06 00 61", 8, 6);
+    refused(Mode::Frontend, "58 00 00 00 05 00", 8, 5);
+    refused(Mode::Backend, "53 00 00 00 07 00 00 00", 8, 7);
+    refused(Mode::Backend, "4B 00 00 00 0D 00 00 00 07 00 00 00 09 00", 8, 13);
 }
 
 #[test]
@@ -150,6 +205,30 @@ fn refusal_10_not_representable() {
 }
 
 #[test]
+fn refusal_10_of_a_start_up_packet() {
+    let out = &mut [0; 64];
+    // an odd number of lengths, which add up or not; an empty name; lengths that do not add up; a zero byte
+    cannot(10, encode::startup(&[4], b"user", out));
+    cannot(10, encode::startup(&[1, 1, 1], b"abc", out));
+    cannot(10, encode::startup(&[1, 0, 0], b"a", out));
+    cannot(10, encode::startup(&[0, 0], b"", out));
+    cannot(10, encode::startup(&[0, 1], b"a", out));
+    cannot(10, encode::startup(&[1, 1, 0, 1], b"abc", out));
+    cannot(10, encode::startup(&[], b"a", out));
+    cannot(10, encode::startup(&[1, 1], b"a", out));
+    cannot(10, encode::startup(&[1, 1], b"abc", out));
+    cannot(10, encode::startup(&[1, u32::MAX], b"a", out));
+    cannot(10, encode::startup(&[u32::MAX, 1], b"", out));
+    cannot(10, encode::startup(&[2, 0], b"a\0", out));
+    cannot(10, encode::startup(&[1, 1], b"a\0", out));
+    // 10 comes before 4 and 9, and 4 before 9
+    cannot(10, encode::startup(&[0, 9000], &[b'a'; 9000], &mut []));
+    cannot(10, encode::startup(&[9000], &[b'a'; 9000], &mut []));
+    cannot(4, encode::startup(&[1, 8999], &[b'a'; 9000], &mut []));
+    assert_eq!(*out, [0; 64]);
+}
+
+#[test]
 fn refusal_11_no_such_element() {
     let eleven = Element::Refused(Refusal { number: 11, place: 0 });
     let row = hex("44 00 00 00 10 00 02 00 00 00 02 61 62 FF FF FF FF");
@@ -162,6 +241,11 @@ fn refusal_11_no_such_element() {
     assert_eq!(element(Mode::Frontend, &bind, 3, 0), eleven);
     assert_eq!(element(Mode::Frontend, &hex("53 00 00 00 04"), 0, 0), eleven);
     assert_eq!(element(Mode::SslResponse, b"S", 0, 0), eleven);
+    let startup = hex("00 00 00 0D 00 03 00 00 61 00 62 00 00");
+    assert_eq!(element(Mode::FirstPacket, &startup, 0, 0), Element::Pair(b"a", b"b"));
+    assert_eq!(element(Mode::FirstPacket, &startup, 0, 1), eleven);
+    assert_eq!(element(Mode::FirstPacket, &startup, 1, 0), eleven);
+    assert_eq!(element(Mode::FirstPacket, &hex("00 00 00 08 04 D2 16 2F"), 0, 0), eleven);
     let none = Row::Refused(Refusal { number: 11, place: 0 });
     assert_eq!(data_row(&hex("31 00 00 00 04"), &mut [0], &mut [0]), none);
 }

@@ -11,6 +11,7 @@ use crate::{oracle, ours};
 use bytes::BytesMut;
 use std::collections::BTreeMap;
 use std::hint::black_box;
+use tusweram::ffi;
 
 const TURNS: u64 = 100;
 
@@ -136,6 +137,7 @@ fn sized(kind: &model::Kind, text: usize, list: usize) -> Content {
                 list
             ]),
             Errors => Field::Errors(vec![(b'M', letters(text)); list]),
+            Pairs => Field::Pairs((0..list).map(|i| (format!("name{i:04}").into_bytes(), letters(text))).collect()),
         })
         .collect();
     let fields = if kind.framing() == Framing::Bare { vec![Field::Num(0)] } else { fields };
@@ -146,12 +148,16 @@ fn generated(p: &mut Points) -> Vec<Costs> {
     use model::Part::*;
     let mut all = Vec::new();
     for (i, k) in KINDS.iter().enumerate() {
-        // CopyDone and CopyData go both ways, and an answer is two bytes: once is enough
+        // CopyDone and CopyData go both ways, a cancel request has two modes, and an answer is two bytes: once is enough
         if KINDS[..i].iter().any(|other| other.number == k.number) {
             continue;
         }
-        let texts: &[usize] = if k.has(&[Str, Rest, Values, RowFields, Errors]) { &[8, 64, 1024] } else { &[0] };
-        let lists: &[usize] = if k.has(&[Oids, Formats, Values, RowFields]) { &[1, 10, 100, 900] } else { &[1] };
+        let texts: &[usize] = if k.has(&[Str, Rest, Values, RowFields, Errors, Pairs]) { &[8, 64, 1024] } else { &[0] };
+        let lists: &[usize] = match k.body {
+            [Pairs] => &[2, 10],
+            _ if k.has(&[Oids, Formats, Values, RowFields]) => &[1, 10, 100, 900],
+            _ => &[1],
+        };
         for text in texts {
             for list in lists {
                 // a longer text beside more than one element tells nothing new
@@ -192,53 +198,74 @@ struct Single {
     cost: f64,
 }
 
-/// What the reader and an element call cost on a row of 900 columns, and memchr beside a string.
-fn singles(p: &mut Points) -> Vec<Single> {
-    let row = |n: usize| model::encode(&model::given(&sized(named("DataRow"), 8, n)), usize::MAX).expect("a frame");
+fn single(p: &mut Points, name: String, call: &mut dyn FnMut()) -> Single {
+    Single { name, cost: p.point(1, call) }
+}
+
+/// The frame of a kind, with strings of `text` bytes and a list of `n`.
+fn frame_of(name: &str, text: usize, n: usize) -> Vec<u8> {
+    model::encode(&model::given(&sized(named(name), text, n)), usize::MAX).expect("a frame")
+}
+
+/// The `n` items of a list, which stand from `start` to `end`, each by a call.
+fn each_by_a_call(p: &mut Points, name: String, (start, end): (usize, usize), n: usize, call: impl Fn(usize) -> ffi::Row) -> Single {
+    single(p, name, &mut || {
+        let mut at = start;
+        for _ in 0..n {
+            at = black_box(&call(at))[3];
+        }
+        assert!(at == end);
+    })
+}
+
+/// What the reader and an element call cost on a row of up to 900 columns.
+fn rows(p: &mut Points) -> Vec<Single> {
     let mut all = Vec::new();
-    let mut single = |p: &mut Points, name: String, call: &mut dyn FnMut()| {
-        let cost = p.point(1, call);
-        all.push(Single { name, cost });
-    };
     for n in [1, 10, 100, 900] {
-        let f = row(n);
+        let f = frame_of("DataRow", 8, n);
         let (mut starts, mut lengths) = (vec![0; n], vec![0; n]);
-        single(p, format!("row of {n} columns: decoded, and every value placed, in one call"), &mut || {
+        all.push(single(p, format!("row of {n} columns: decoded, and every value placed, in one call"), &mut || {
             black_box(&ours::data_row(black_box(&f), &mut starts, &mut lengths));
-        });
-        single(p, format!("row of {n} columns: each value by a call, after decode"), &mut || {
-            let mut at = 7;
-            for _ in 0..n {
-                at = black_box(&ours::value(black_box(&f), at))[3];
-            }
-            assert!(at == f.len());
-        });
-        single(p, format!("row of {n} columns: an element call for the first"), &mut || {
+        }));
+        let name = format!("row of {n} columns: each value by a call, after decode");
+        all.push(each_by_a_call(p, name, (7, f.len()), n, |at| ours::value(black_box(&f), at)));
+        all.push(single(p, format!("row of {n} columns: an element call for the first"), &mut || {
             black_box(&ours::element(1, black_box(&f), 0, 0));
-        });
-        single(p, format!("row of {n} columns: an element call for the last"), &mut || {
+        }));
+        all.push(single(p, format!("row of {n} columns: an element call for the last"), &mut || {
             black_box(&ours::element(1, black_box(&f), 0, n - 1));
-        });
+        }));
     }
+    all
+}
+
+/// The fields of a description and the pairs of a start-up, each by a call.
+fn walks(p: &mut Points) -> Vec<Single> {
+    let mut all = Vec::new();
     for n in [1, 10, 100, 900] {
-        let f = model::encode(&model::given(&sized(named("RowDescription"), 8, n)), usize::MAX).expect("a frame");
-        single(p, format!("description of {n} columns: each field by a call, after decode"), &mut || {
-            let mut at = 7;
-            for _ in 0..n {
-                at = black_box(&ours::field(black_box(&f), at))[3];
-            }
-            assert!(at == f.len());
-        });
+        let f = frame_of("RowDescription", 8, n);
+        let name = format!("description of {n} columns: each field by a call, after decode");
+        all.push(each_by_a_call(p, name, (7, f.len()), n, |at| ours::field(black_box(&f), at)));
     }
+    for n in [2, 10] {
+        let f = frame_of("Startup", 8, n);
+        let name = format!("start-up of {n} pairs: each pair by a call, after decode");
+        all.push(each_by_a_call(p, name, (8, f.len() - 1), n, |at| ours::pair(black_box(&f), at)));
+    }
+    all
+}
+
+/// A string, and memchr beside it.
+fn strings(p: &mut Points) -> Vec<Single> {
+    let mut all = Vec::new();
     for n in [0usize, 8, 64, 1024] {
-        let tag = sized(named("CommandComplete"), n, 0);
-        let f = model::encode(&model::given(&tag), usize::MAX).expect("a frame");
-        single(p, format!("CommandComplete with a tag of {n}"), &mut || {
+        let f = frame_of("CommandComplete", n, 0);
+        all.push(single(p, format!("CommandComplete with a tag of {n}"), &mut || {
             black_box(&ours::decode(1, black_box(&f)));
-        });
-        single(p, format!("memchr over {n} bytes and the zero"), &mut || {
+        }));
+        all.push(single(p, format!("memchr over {n} bytes and the zero"), &mut || {
             black_box(zero_in(black_box(&f[5..])));
-        });
+        }));
     }
     all
 }
@@ -283,7 +310,7 @@ pub fn run(traffic: &[(u8, Vec<u8>)], counts: Option<Vec<u64>>) {
     });
     let real = real(&mut p, traffic);
     let generated = generated(&mut p);
-    let singles = singles(&mut p);
+    let singles: Vec<Single> = [rows(&mut p), walks(&mut p), strings(&mut p)].into_iter().flatten().collect();
     if !show {
         return;
     }

@@ -11,6 +11,9 @@ pub struct RowField {
     pub format_code: i16,
 }
 
+/// A start-up's argument: its name, its value.
+pub type Pair = (Vec<u8>, Vec<u8>);
+
 #[derive(Clone, PartialEq, Eq, Debug)]
 pub enum Field {
     Num(i64),
@@ -21,6 +24,7 @@ pub enum Field {
     Values(Vec<Option<Vec<u8>>>),
     RowFields(Vec<RowField>),
     Errors(Vec<(u8, Vec<u8>)>),
+    Pairs(Vec<Pair>),
     /// A DataRow as the Rust keeps it: the count, and the bytes after it, not taken apart.
     Unread(i16, Vec<u8>),
 }
@@ -49,19 +53,39 @@ impl Content {
                     Field::RowFields(fields.iter().map(|f| RowField { name: lossy(&f.name), ..f.clone() }).collect())
                 }
                 Field::Errors(errors) => Field::Errors(errors.iter().map(|(c, t)| (*c, lossy(t))).collect()),
+                Field::Pairs(pairs) => Field::Pairs(pairs.iter().map(|(name, value)| (lossy(name), lossy(value))).collect()),
                 other => other.clone(),
             })
             .collect();
         Content { kind: self.kind, fields }
     }
 
-    /// The same with a DataRow's values as the Rust keeps them: joined, each with its length. A DataRow is values and nothing else.
-    pub fn unread(&self) -> Content {
-        match &self.fields[..] {
-            [Field::Values(values)] => Content { kind: self.kind, fields: vec![Field::Unread(values.len() as i16, joined(values))] },
-            _ => self.clone(),
-        }
+    /// The same as the Rust keeps it: a DataRow's values joined, each with its length; a start-up's pairs in the order of their names. Two pairs
+    /// of one name both stay. A DataRow is values and nothing else.
+    pub fn kept(&self) -> Content {
+        let field = match &self.fields[..] {
+            [Field::Values(values)] => Field::Unread(values.len() as i16, joined(values)),
+            [Field::Pairs(pairs)] => Field::Pairs(sorted(pairs)),
+            _ => return self.clone(),
+        };
+        Content { kind: self.kind, fields: vec![field] }
     }
+
+    /// The same with the last alone of several pairs with one name, which stand beside each other.
+    pub fn last_of_each_name(&self) -> Content {
+        let mut c = self.clone();
+        if let [Field::Pairs(pairs)] = &mut c.fields[..] {
+            *pairs = pairs.chunk_by(|a, b| a.0 == b.0).map(|same| same[same.len() - 1].clone()).collect();
+        }
+        c
+    }
+}
+
+fn sorted(pairs: &[Pair]) -> Vec<Pair> {
+    let mut pairs = pairs.to_vec();
+    // a stable sort: of one name the last stays last
+    pairs.sort_by(|a, b| a.0.cmp(&b.0));
+    pairs
 }
 
 /// Values as they stand on the wire.

@@ -3,7 +3,7 @@
 use crate::content::Content;
 use crate::inputs;
 use crate::judging::{Case, Run, Verdict};
-use crate::model::{framing, numbers, Answer, Framing};
+use crate::model::{framing, kind_of, numbers, Answer, Framing};
 use crate::oracle::{self, Seen};
 use std::collections::BTreeMap;
 
@@ -16,7 +16,7 @@ pub struct FixedList {
 impl FixedList {
     /// A few cases of each sort are taken.
     pub fn take(&mut self, case: &Case, answer: &Answer, verdict: &Verdict, source: &str) {
-        if case.buf.len() > 80 || case.mode > 9 || may_become_a_kind(case) {
+        if case.buf.len() > 80 || case.mode > 9 || may_become_a_kind(case) || taken_by_the_rust_alone(case, answer) {
             return;
         }
         let most = if source.starts_with("every") { 1 } else { 5 };
@@ -36,6 +36,11 @@ fn may_become_a_kind(case: &Case) -> bool {
     framing(case.mode) == Some(Framing::Typed) && oracle::left_out(case.mode).skip(1).any(|byte| case.buf.first() == Some(&byte))
 }
 
+/// A request for encryption that the Rust takes before its end has come: a line says that neither refuses, and so that both wait.
+fn taken_by_the_rust_alone(case: &Case, answer: &Answer) -> bool {
+    *answer == Answer::NeedMore && *case.seen != Seen::NeedMore
+}
+
 /// What makes two cases alike: source, mode, kind, our answer and the verdict.
 fn sort(case: &Case, answer: &Answer, verdict: &Verdict, source: &str) -> String {
     let mode = case.mode;
@@ -45,8 +50,8 @@ fn sort(case: &Case, answer: &Answer, verdict: &Verdict, source: &str) -> String
         Answer::Record(k, _, _) => format!("{source} {mode} {} {verdict:?}", k.name),
         Answer::NeedMore => format!("{source} {mode} wait"),
         Answer::Refused(n, _) => {
-            let type_byte = if framing(mode) == Some(Framing::Typed) { case.buf[0] as char } else { ' ' };
-            format!("{source} {mode} {type_byte} {n} {verdict:?}")
+            let kind = kind_of(mode, case.buf).expect("a kind that was told");
+            format!("{source} {mode} {} {n} {verdict:?}", kind.name)
         }
     }
 }

@@ -4,7 +4,7 @@ use crate::model::{numbered, Given, Kind, Part, RowFieldGiven};
 use tusweram::ffi::{self, Lists, Plain, Row};
 use tusweram::{FieldDescription, Span};
 
-pub use tusweram::ffi::{data_row, decode, element, field, value};
+pub use tusweram::ffi::{data_row, decode, element, field, pair, value};
 
 /// The item at a place of a frame, of a list whose items have no fixed size.
 pub fn item(list: Part, frame: &[u8], at: usize) -> Row {
@@ -12,6 +12,7 @@ pub fn item(list: Part, frame: &[u8], at: usize) -> Row {
         Part::Values => ffi::value(frame, at),
         Part::RowFields => ffi::field(frame, at),
         Part::Errors => ffi::error_field(frame, at),
+        Part::Pairs => ffi::pair(frame, at),
         _ => panic!("no call reads an item of {list:?}"),
     }
 }
@@ -28,7 +29,7 @@ pub enum Call {
 pub fn call(kind: &Kind) -> Call {
     if kind.has(&[Part::RowFields]) {
         Call::RowDescription
-    } else if kind.has(&[Part::Oids, Part::Formats, Part::Values, Part::Errors]) {
+    } else if kind.has(&[Part::Oids, Part::Formats, Part::Values, Part::Errors, Part::Pairs]) {
         Call::Lists
     } else {
         Call::Plain
@@ -55,14 +56,15 @@ pub fn prepared(g: &Given) -> Box<dyn Fn(&mut [u8]) -> usize + '_> {
             Box::new(move |out| ffi::encode_row_description(&fields, &g.joined, out))
         }
         Call::Lists => {
-            // an error's codes and lengths stand where other kinds have a text and oids
+            // an error's codes stand where other kinds have a text, and its lengths or those of pairs where they have oids
             let errors = numbered(g.kind).has(&[Part::Errors]);
+            let sized = errors || numbered(g.kind).has(&[Part::Pairs]);
             let lists = Lists {
                 format: number(0) as i8,
                 one: if errors { &g.codes } else { one },
                 two,
                 joined: &g.joined,
-                words: if errors { &g.sizes } else { &g.oids },
+                words: if sized { &g.sizes } else { &g.oids },
                 lengths: &g.lengths,
                 formats: &g.formats,
                 results: &g.results,

@@ -1,6 +1,6 @@
 //! What the tests know kind by kind: a new kind has a row here, its arm of `write` and, where it has a list, of `walked`.
 
-use super::{formats, joined, oids, records, report};
+use super::{formats, joined, oids, records, report, settings};
 use tusweram::*;
 
 /// A part of a body; a list has a count and its items.
@@ -13,6 +13,7 @@ pub enum Part {
     List(&'static [Part]),
     Value,
     Errors,
+    Pairs,
 }
 
 use Part::*;
@@ -20,6 +21,7 @@ use Part::*;
 const FIELD: &[Part] = &[Text, Bytes(18)];
 const REPORT: &[Part] = &[Errors];
 const COPY: &[Part] = &[Bytes(1), List(&[Bytes(2)])];
+const KEY: &[Part] = &[Bytes(4), Bytes(4)];
 
 /// The kinds with a type byte: the mode, the byte and the body, by docs/FORMAT.md 4.
 pub const KINDS: &[(Mode, u8, &[Part])] = &[
@@ -33,6 +35,8 @@ pub const KINDS: &[(Mode, u8, &[Part])] = &[
     (Mode::Frontend, b'c', &[]),
     (Mode::Frontend, b'd', &[Rest]),
     (Mode::Frontend, b'f', &[Text]),
+    (Mode::Frontend, b'Q', &[Text]),
+    (Mode::Frontend, b'X', &[]),
     (Mode::Backend, b'c', &[]),
     (Mode::Backend, b'd', &[Rest]),
     (Mode::Backend, b'1', &[]),
@@ -52,6 +56,17 @@ pub const KINDS: &[(Mode, u8, &[Part])] = &[
     (Mode::Backend, b'H', COPY),
     (Mode::Backend, b'W', COPY),
     (Mode::Backend, b'A', &[Bytes(4), Text, Text]),
+    (Mode::Backend, b'S', &[Text, Text]),
+    (Mode::Backend, b'K', KEY),
+];
+
+/// The kinds that a code tells, behind the length: the mode, the code and the body.
+pub const CODED: &[(Mode, u32, &[Part])] = &[
+    (Mode::CancelRequest, 80877102, KEY),
+    (Mode::FirstPacket, 196608, &[Pairs]),
+    (Mode::FirstPacket, 80877103, &[]),
+    (Mode::FirstPacket, 80877104, &[]),
+    (Mode::FirstPacket, 80877102, KEY),
 ];
 
 /// A message, written again from what was read.
@@ -104,6 +119,16 @@ pub fn write(message: &Message, out: &mut [u8]) -> Encoded {
         Message::CancelRequest(m) => encode::cancel_request(m.pid, m.secret_key, out),
         Message::SslResponse(m) => encode::ssl_response(m, out),
         Message::GssEncResponse(m) => encode::gss_enc_response(m, out),
+        Message::Startup(m) => {
+            let (lengths, texts) = settings(m.parameters);
+            encode::startup(&lengths, &texts, out)
+        }
+        Message::SslRequest => encode::ssl_request(out),
+        Message::GssEncRequest => encode::gss_enc_request(out),
+        Message::Query(m) => encode::query(m.query, out),
+        Message::Terminate => encode::terminate(out),
+        Message::ParameterStatus(m) => encode::parameter_status(m.name, m.value, out),
+        Message::BackendKeyData(m) => encode::backend_key_data(m.pid, m.secret_key, out),
     }
 }
 
@@ -126,6 +151,7 @@ pub fn walked<'a>(message: &Message<'a>) -> Vec<Vec<Element<'a>>> {
         Message::CopyInResponse(m) => vec![formats(m.column_formats)],
         Message::CopyOutResponse(m) => vec![formats(m.column_formats)],
         Message::CopyBothResponse(m) => vec![formats(m.column_formats)],
+        Message::Startup(m) => vec![m.parameters.iter().map(|(name, value)| Element::Pair(name, value)).collect()],
         _ => vec![],
     }
 }

@@ -3,7 +3,7 @@
 
 pub mod kinds;
 
-use kinds::{walked, write, KINDS};
+use kinds::{walked, write, CODED, KINDS};
 use tusweram::*;
 
 /// Bytes from hexadecimal digits, with blanks between them.
@@ -14,6 +14,18 @@ pub fn hex(text: &str) -> Vec<u8> {
 /// Whether a type byte tells a kind of the mode.
 pub fn is_kind(mode: Mode, type_byte: u8) -> bool {
     KINDS.iter().any(|row| (row.0, row.1) == (mode, type_byte))
+}
+
+/// Whether a code tells a kind of the mode.
+pub fn is_coded(mode: Mode, code: u32) -> bool {
+    CODED.iter().any(|row| (row.0, row.1) == (mode, code))
+}
+
+/// Writes a frame's length into it: behind its type byte, or at its start.
+pub fn set_length(mode: Mode, frame: &mut [u8]) {
+    let at = if matches!(mode, Mode::Frontend | Mode::Backend) { 1 } else { 0 };
+    let length = (frame.len() - at) as u32;
+    frame[at..at + 4].copy_from_slice(&length.to_be_bytes());
 }
 
 /// An encoder's refusal.
@@ -38,6 +50,13 @@ fn report(fields: ErrorFields) -> (Vec<u8>, Vec<u32>, Vec<u8>) {
     let lengths = fields.iter().map(|field| field.text.len() as u32).collect();
     let texts = fields.iter().flat_map(|field| field.text.to_vec()).collect();
     (codes, lengths, texts)
+}
+
+/// A start-up packet's pairs as an encoder takes them.
+fn settings(pairs: Pairs) -> (Vec<u32>, Vec<u8>) {
+    let lengths = pairs.iter().flat_map(|(name, value)| [name.len() as u32, value.len() as u32]).collect();
+    let texts = pairs.iter().flat_map(|(name, value)| [name, value].concat()).collect();
+    (lengths, texts)
 }
 
 /// A row's fields as an encoder takes them.

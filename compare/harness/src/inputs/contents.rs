@@ -1,13 +1,13 @@
 //! Contents of every kind: random ones, their frames, and what is made of them: longer ones, and such that cannot be written.
 
 use super::Rng;
-use crate::content::{Content, Field, RowField};
+use crate::content::{Content, Field, Pair, RowField};
 use crate::model::{self, numbered, Framing, Given, Kind, Part, MOST_ELEMENTS, REFUSES, STATUSES, TARGETS};
 
 pub fn content(r: &mut Rng, kind: &Kind) -> Content {
     let mut fields: Vec<Field> = kind.body.iter().map(|p| part(r, *p)).collect();
     if kind.framing() == Framing::Bare {
-        fields.push(Field::Num((kind.tag == REFUSES) as i64));
+        fields.push(Field::Num((kind.tag == REFUSES as u32) as i64));
     }
     Content { kind: kind.number, fields }
 }
@@ -25,7 +25,21 @@ fn part(r: &mut Rng, p: Part) -> Field {
         Part::Values => Field::Values((0..r.few()).map(|_| if r.one_in(4) { None } else { Some(r.bytes()) }).collect()),
         Part::RowFields => Field::RowFields((0..r.few()).map(|_| row_field(r)).collect()),
         Part::Errors => Field::Errors((0..r.few()).map(|_| ((r.below(255) + 1) as u8, r.text())).collect()),
+        Part::Pairs => Field::Pairs(pairs(r)),
     }
+}
+
+/// Pairs whose names are not empty; at times the last has the name of the first.
+fn pairs(r: &mut Rng) -> Vec<Pair> {
+    let mut pairs: Vec<Pair> = (0..r.few()).map(|i| ([&[b'a' + i as u8][..], &r.text()].concat(), r.text())).collect();
+    if pairs.len() > 1 && r.one_in(4) {
+        last(&mut pairs).0 = pairs[0].0.clone();
+    }
+    // names in any order
+    if r.one_in(2) {
+        pairs.reverse();
+    }
+    pairs
 }
 
 fn row_field(r: &mut Rng) -> RowField {
@@ -72,6 +86,7 @@ fn stretch_bytes(f: &mut Field, n: usize) -> bool {
         Field::Values(values) => values.iter_mut().flatten().next(),
         Field::RowFields(fields) => fields.first_mut().map(|f| &mut f.name),
         Field::Errors(errors) => errors.first_mut().map(|(_, text)| text),
+        Field::Pairs(pairs) => pairs.first_mut().map(|(_, value)| value),
         _ => None,
     };
     bytes.map(|t| t.resize(t.len() + n, b'x')).is_some()
@@ -87,7 +102,7 @@ fn stretch_numbers(f: &mut Field, n: usize) -> bool {
     true
 }
 
-/// A content that cannot be written, where the kind has such a thing: a zero in a text, a zero code, another target, a list too long.
+/// A content that cannot be written, where the kind has such a thing: a zero in a text, a zero code, an empty name, another target, a list too long.
 pub fn spoiled(r: &mut Rng, c: &Content) -> Content {
     let mut c = c.clone();
     let n = c.fields.len();
@@ -106,6 +121,11 @@ pub fn spoiled(r: &mut Rng, c: &Content) -> Content {
         Field::RowFields(fields) if !fields.is_empty() => fields[0].name.push(0),
         Field::Errors(es) if !es.is_empty() && r.one_in(2) => es[0].0 = 0,
         Field::Errors(es) if !es.is_empty() => es[0].1.insert(0, 0),
+        Field::Pairs(ps) if !ps.is_empty() => match r.below(3) {
+            0 => last(ps).0.clear(),
+            1 => ps[0].0.push(0),
+            _ => ps[0].1.push(0),
+        },
         Field::Oids(o) if long => o.resize(MOST_ELEMENTS + 1, 1),
         Field::Formats(f) if long => f.resize(MOST_ELEMENTS + 1, 1),
         Field::Values(v) if long => v.resize(MOST_ELEMENTS + 1, None),
@@ -118,7 +138,7 @@ pub fn spoiled(r: &mut Rng, c: &Content) -> Content {
 pub fn misgiven(r: &mut Rng, c: &Content) -> Given {
     let mut g = model::given(c);
     let number = *r.pick(&[-2, -1, 0, 1, i32::MAX, i32::MIN]);
-    match r.below(7) {
+    match r.below(8) {
         0 if !g.lengths.is_empty() => *last(&mut g.lengths) = number,
         1 if !g.sizes.is_empty() => *last(&mut g.sizes) = number as u32,
         2 if !g.sizes.is_empty() => drop(g.sizes.pop()),
@@ -129,6 +149,8 @@ pub fn misgiven(r: &mut Rng, c: &Content) -> Given {
             *(if r.one_in(2) { &mut field.start } else { &mut field.len }) = far;
         }
         5 => drop(g.joined.pop()),
+        // the same sum: a start-up's empty value becomes an empty name
+        6 if !g.sizes.is_empty() => g.sizes.rotate_left(1),
         _ => g.joined.push(r.next() as u8),
     }
     g

@@ -16,30 +16,44 @@ pub fn alphabet(count: u64) -> &'static [u8] {
     &ALPHABET[..letters]
 }
 
+/// Every row of `n` bytes of the alphabet.
+fn words(alphabet: &[u8], n: u32) -> impl Iterator<Item = Vec<u8>> + '_ {
+    let letters = alphabet.len() as u64;
+    (0..letters.pow(n)).map(move |i| (0..n).map(|place| alphabet[(i / letters.pow(place) % letters) as usize]).collect())
+}
+
 /// Every frame of up to 8 bytes whose first is a type byte of the mode and whose others are of the alphabet.
 pub fn exhaustive(run: &mut Run, alphabet: &[u8]) {
     run.from("every frame of up to 8 bytes over a small alphabet");
     for k in KINDS.iter().filter(|k| k.framing() == Framing::Typed) {
-        for n in 0..=7u32 {
-            for i in 0..(alphabet.len() as u64).pow(n) {
-                let mut buf = vec![k.tag];
-                let mut i = i;
-                for _ in 0..n {
-                    buf.push(alphabet[(i % alphabet.len() as u64) as usize]);
-                    i /= alphabet.len() as u64;
-                }
-                run.decode(k.mode, &buf);
+        for rest in (0..=7).flat_map(|n| words(alphabet, n)) {
+            run.decode(k.mode, &[&k.tag_bytes()[..], &rest].concat());
+        }
+    }
+}
+
+/// Every first packet of up to 13 bytes: a length around its bytes, a code of mode 5 or one that is none, and a body of the alphabet.
+pub fn first_packets(run: &mut Run, alphabet: &[u8]) {
+    run.from("every first packet of up to 13 bytes over a small alphabet");
+    let none = [0, 196_610];
+    let codes: Vec<u32> = KINDS.iter().filter(|k| k.mode == 5).map(|k| k.tag).chain(none).collect();
+    for body in (0..=5).flat_map(|n| words(alphabet, n)) {
+        for length in 7..=body.len() as u32 + 9 {
+            for code in &codes {
+                let packet = [&length.to_be_bytes()[..], &code.to_be_bytes(), &body].concat();
+                run.decode(2, &packet);
+                run.decode(5, &packet);
             }
         }
     }
 }
 
-/// Every byte alone and with a second in every mode, every mode number, and the short beginnings of mode 2.
+/// Every byte alone and with a second in every mode, every mode number, and the short beginnings of modes 2 and 5.
 pub fn bytes_alone(run: &mut Run) {
     run.from("one and two bytes, every mode");
     for mode in 0..=255u8 {
         run.decode(mode, &[]);
-        let bytes: Vec<u8> = if mode < 6 { (0..=255).collect() } else { vec![0, b'S', 255] };
+        let bytes: Vec<u8> = if mode < 7 { (0..=255).collect() } else { vec![0, b'S', 255] };
         for b in bytes {
             run.decode(mode, &[b]);
             for second in [0, 4, 255] {

@@ -20,6 +20,7 @@ pub fn everything(run: &mut Run, count: u64, seed: u64, folder: &str) {
     let alphabet = generated::alphabet(count);
     println!("an alphabet of {} bytes: {}", alphabet.len(), hex(alphabet));
     generated::exhaustive(run, alphabet);
+    generated::first_packets(run, alphabet);
     generated::boundaries(run, &mut r, if count > 2_000_000 { 8 } else { 1 });
     real::real_traffic(run, &mut r, &traffic, if count > 2_000_000 { 4 } else { 16 });
     // a third at least are random
@@ -34,6 +35,7 @@ pub fn for_the_list(run: &mut Run, seed: u64, folder: &str) {
     let mut r = Rng(seed);
     generated::bytes_alone(run);
     generated::exhaustive(run, &generated::ALPHABET[..3]);
+    generated::first_packets(run, &generated::ALPHABET[..3]);
     let traffic = real::corpus(folder);
     real::real_traffic(run, &mut r, &traffic, 4);
     real::real_traffic(run, &mut r.clone(), &real::left_out(&traffic), 4);

@@ -19,14 +19,15 @@ pub fn corpus(folder: &str) -> Vec<Moded> {
     names.iter().flat_map(|p| frames(&std::fs::read(p).unwrap(), p.to_string_lossy().ends_with(".front.bin"))).collect()
 }
 
-/// A stream by its own length words: the frames, each in its mode. The start-up packet has no type byte.
+/// A stream by its own length words: the frames, each in its mode.
 fn frames(stream: &[u8], front: bool) -> Vec<Moded> {
     let mut out = Vec::new();
     let mut at = 0;
     let word = |at: usize| u32::from_be_bytes(stream[at..at + 4].try_into().unwrap()) as usize;
+    // the client's first packet, and after a request for encryption another, has no type byte: its length is small, and so begins with zero
     while front && at + 8 <= stream.len() && stream[at] == 0 {
         let n = word(at);
-        out.push((2, stream[at..at + n].to_vec()));
+        out.push((5, stream[at..at + n].to_vec()));
         at += n;
     }
     // the answer to a request for TLS or GSS encryption: one byte before the first message

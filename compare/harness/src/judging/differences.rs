@@ -1,7 +1,7 @@
 //! Which entry of docs/DIFFERENCES.md a difference falls under. A difference under no entry fails the run.
 
 use crate::content::{Content, Field};
-use crate::model::{self, framing, kind_of, numbered, Answer, Kind, Part};
+use crate::model::{self, framing, kind_of, numbered, Answer, Framing, Kind, Part};
 use crate::oracle::{self, Seen};
 
 #[derive(Clone, PartialEq, Eq, Debug)]
@@ -18,9 +18,10 @@ use Verdict::*;
 
 /// The entries, in the order of docs/DIFFERENCES.md.
 #[rustfmt::skip]
-pub const ENTRIES: [&str; 20] = [
+pub const ENTRIES: [&str; 25] = [
     "mode", "one-byte", "left-out", "copy-fail-from-backend", "answer-byte", "negative-length", "short-length", "limits", "signed-count",
-    "count", "missing-zero", "past-the-frame", "cut", "bytes-left", "target", "value-length", "data-row", "error-fields", "cancel-key", "text",
+    "count", "missing-zero", "past-the-frame", "cut", "bytes-left", "target", "value-length", "data-row", "error-fields", "cancel-key",
+    "code-first", "minor-version", "request-length", "startup-pairs", "same-name", "text",
 ];
 
 /// The Rust reads a count of oids, and each count of Bind, as an unsigned number. A DataRow's values it does not read.
@@ -101,6 +102,9 @@ fn refused(seen: &Seen, error: &str) -> bool {
 
 /// The Rust's answer beside ours, which is the model's.
 pub fn judge(case: &Case, ours: &Answer) -> Verdict {
+    if kind_of(case.mode, case.buf).is_some_and(Kind::is_request) {
+        return request(case, ours);
+    }
     match ours {
         Answer::Record(..) => taken(case, ours),
         Answer::NeedMore => when(case.waits() && case.consumed == 0, Equal, "need-more here alone"),
@@ -122,16 +126,30 @@ fn taken(case: &Case, ours: &Answer) -> Verdict {
     if !matches!(ours, Answer::Record(_, n, _) if *n == case.consumed) {
         return Unexplained("other bytes consumed");
     }
-    let ours = model::content(ours, case.buf).unwrap().unread();
-    if *theirs == ours {
+    let ours = model::content(ours, case.buf).unwrap();
+    if *theirs == ours.kept() {
         return Equal;
     }
-    when(*theirs == ours.lossy(), Under("text"), "other fields")
+    let lossy = ours.lossy().kept();
+    if *theirs == lossy {
+        return Under("text");
+    }
+    when(*theirs == lossy.last_of_each_name(), Under("same-name"), "other fields")
+}
+
+/// A request for encryption: the Rust takes its 8 bytes by the code alone, whatever its length says.
+fn request(case: &Case, ours: &Answer) -> Verdict {
+    let took_it = matches!(case.seen, Seen::Record(theirs) if theirs.kind == case.kind().number);
+    match ours {
+        Answer::Record(..) => taken(case, ours),
+        _ => when(took_it && case.consumed == 8, Under("request-length"), "a request for encryption"),
+    }
 }
 
 fn unknown(case: &Case) -> Verdict {
     match case.mode {
         2 => when(case.refused("InvalidCancelRequest"), BothRefuse, "an unknown code"),
+        5 => unknown_word(case),
         3 | 4 => when(case.waits(), Under("answer-byte"), "an unknown answer byte"),
         _ if case.buf.len() == 1 => when(case.waits(), Under("one-byte"), "one byte of an unknown type"),
         1 if case.buf[0] == b'f' => Under("copy-fail-from-backend"),
@@ -142,6 +160,28 @@ fn unknown(case: &Case) -> Verdict {
     }
 }
 
+/// The Rust takes a packet with another code for a start-up: it tests the length first, awaits the whole, and then looks at the major version.
+fn unknown_word(case: &Case) -> Verdict {
+    if case.buf[4..6] == [0, 3] {
+        return other_minor(case);
+    }
+    if case.refused("InvalidStartupMessage") {
+        return BothRefuse;
+    }
+    when(case.waits() || case.refused("MessageTooLarge"), Under("code-first"), "an unknown code")
+}
+
+/// The Rust takes any minor version. As if it were 3.0, the two are to be alike, or to differ under another entry.
+fn other_minor(case: &Case) -> Verdict {
+    let mut buf = case.buf.to_vec();
+    buf[6..8].fill(0);
+    match judge(&Case { buf: &buf, ..*case }, &model::decode(case.mode, &buf)) {
+        Unexplained(what) => Unexplained(what),
+        BothRefuse => BothRefuse,
+        _ => Under("minor-version"),
+    }
+}
+
 fn too_short(case: &Case) -> Verdict {
     if case.length() < 0 {
         return when(case.refused("MessageTooLarge"), Under("negative-length"), "a negative length");
@@ -149,8 +189,13 @@ fn too_short(case: &Case) -> Verdict {
     if case.buf.len() < case.end() {
         return when(case.waits(), Under("short-length"), "a short length, incomplete");
     }
-    if case.mode == 2 {
-        return when(case.refused("InvalidCancelRequest"), BothRefuse, "a short cancel request");
+    let key = case.kind().has_key();
+    if framing(case.mode) == Some(Framing::Untyped) {
+        let error = if key { "InvalidCancelRequest" } else { "InvalidStartupMessage" };
+        return when(case.refused(error), BothRefuse, "a short first packet");
+    }
+    if key && case.refused("InvalidSecretKey") {
+        return BothRefuse;
     }
     when(case.wild() || case.refused("InvalidTransactionStatus"), Under("short-length"), "a short length")
 }
@@ -196,12 +241,30 @@ fn cut(case: &Case, place: usize) -> Verdict {
             }
         };
     }
+    if case.kind().has(&[Part::Pairs]) {
+        return match case.buf[place..].contains(&0) {
+            true => when(case.took(), Under("past-the-frame"), "a start-up's pairs past the frame"),
+            false => when(took_pairs_up_to(case, place), Under("startup-pairs"), "a start-up's pairs with no end"),
+        };
+    }
     match model::fault(case.mode, case.buf) {
         "string" if case.buf[place..].contains(&0) => when(case.wild(), Under("past-the-frame"), "a string past the frame"),
         "string" => when(case.wild(), Under("missing-zero"), "a string with no zero byte"),
         _ if case.followed() => when(case.wild(), Under("past-the-frame"), "a number or value past the frame"),
         _ => when(case.panicked(), Under("cut"), "a number or value that is cut"),
     }
+}
+
+/// Whether the Rust took a start-up as if its pairs ended at a place: those before it, and a name that stands alone with an empty value.
+fn took_pairs_up_to(case: &Case, place: usize) -> bool {
+    let ended = |end: &[u8]| {
+        let mut packet = [&case.buf[..place], end].concat();
+        let length = packet.len() as u32;
+        packet[..4].copy_from_slice(&length.to_be_bytes());
+        let pairs = model::content(&model::decode_unlimited(case.mode, &packet), &packet);
+        pairs.is_some_and(|c| *case.seen == Seen::Record(c.lossy().kept().last_of_each_name()))
+    };
+    case.consumed == place && (ended(&[0]) || ended(&[0, 0]))
 }
 
 fn not_allowed(case: &Case) -> Verdict {
@@ -215,7 +278,7 @@ fn not_allowed(case: &Case) -> Verdict {
 }
 
 fn left_over(case: &Case, place: usize) -> Verdict {
-    if case.mode == 2 {
+    if case.kind().has_key() {
         return when(case.took_up_to(place) || case.refused("InvalidSecretKey"), Under("cancel-key"), "a longer key");
     }
     when(case.took_up_to(place), Under("bytes-left"), "bytes left over")
@@ -224,12 +287,21 @@ fn left_over(case: &Case, place: usize) -> Verdict {
 // ---- encoding
 
 /// The entries of encoding.
-pub const ENCODE_ENTRIES: [&str; 5] = ["encode-limits", "encode-zero-in-text", "encode-target", "encode-zero-code", "encode-count"];
+#[rustfmt::skip]
+pub const ENCODE_ENTRIES: [&str; 7] = [
+    "encode-limits", "encode-zero-in-text", "encode-target", "encode-zero-code", "encode-count", "encode-empty-name", "encode-pair-order",
+];
 
 /// What the model and the Rust write of one content.
 pub fn judge_encoded(c: &Content, model: &Result<Vec<u8>, u8>, seen: &Result<Vec<u8>, Seen>) -> Verdict {
     match model {
-        Ok(frame) => when(seen.as_ref() == Ok(frame), Equal, "other bytes written"),
+        Ok(frame) if seen.as_ref() == Ok(frame) => Equal,
+        // the same pairs in the order of their names
+        Ok(_) if numbered(c.kind).has(&[Part::Pairs]) => {
+            let sorted = model::encode(&model::given(&c.kept()), usize::MAX).ok();
+            when(seen.as_ref().ok() == sorted.as_ref(), Under("encode-pair-order"), "other pairs written")
+        }
+        Ok(_) => Unexplained("other bytes written"),
         Err(4) => match seen {
             Err(e) => when(refused(e, "MessageTooLarge"), BothRefuse, "an encoder's refusal"),
             Ok(_) => Under("encode-limits"),
@@ -250,6 +322,8 @@ fn unwritable(c: &Content) -> &'static str {
             Field::RowFields(fields) if fields.iter().any(|f| f.name.contains(&0)) => return "encode-zero-in-text",
             Field::Errors(es) if es.iter().any(|(_, t)| t.contains(&0)) => return "encode-zero-in-text",
             Field::Errors(es) if es.iter().any(|(code, _)| *code == 0) => return "encode-zero-code",
+            Field::Pairs(ps) if ps.iter().any(|(name, value)| name.contains(&0) || value.contains(&0)) => return "encode-zero-in-text",
+            Field::Pairs(_) => return "encode-empty-name",
             _ => {}
         }
     }

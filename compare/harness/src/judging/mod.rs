@@ -89,6 +89,7 @@ impl Run {
         self.count(&case, &expected, &verdict);
         self.elements_of(mode, buf, &expected);
         self.items_of(mode, buf, &expected);
+        self.items_anywhere(mode, buf);
         if mode == 1 {
             self.row_of(buf, &expected);
         }
@@ -125,7 +126,7 @@ impl Run {
         for (s, n) in &self.sources {
             println!("  {n:>10}  {s}");
         }
-        println!("elements: {} calls; items one after another: {}; rows in one pass: {}", self.elements, self.items, self.rows);
+        println!("elements: {} calls; items at a place: {}; rows in one pass: {}", self.elements, self.items, self.rows);
         println!(
             "encoding: {} contents; with what is no content {} by the library, each into four outputs",
             self.encoded, self.ours_encoded

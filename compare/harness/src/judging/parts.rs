@@ -7,6 +7,9 @@ use crate::ours;
 /// The model reads each element from the list's start: no longer lists are read whole.
 const READ_WHOLE: usize = 300;
 
+/// The lists whose items have no fixed size: a call reads one at a place.
+const WALKED: [Part; 4] = [Part::Values, Part::RowFields, Part::Errors, Part::Pairs];
+
 impl Run {
     /// The elements of each list: all of a short one; of a long one the first, the last and some; and what is past the end.
     pub(super) fn elements_of(&mut self, mode: u8, buf: &[u8], answer: &Answer) {
@@ -32,30 +35,38 @@ impl Run {
     pub(super) fn items_of(&mut self, mode: u8, buf: &[u8], answer: &Answer) {
         let Answer::Record(k, consumed, slots) = answer else { return };
         // items of one size need no call; Bind's values come after its formats
-        let Some((part @ (Part::Values | Part::RowFields | Part::Errors), start, count)) = model::lists(k, slots).first().copied() else {
-            return;
-        };
-        if count > READ_WHOLE {
-            return;
-        }
-        let mut at = start;
-        for i in 0..count {
-            let element = model::element(mode, buf, 0, i);
-            let next = match &element {
-                Element::Value(start, len) => start + len,
-                Element::Field { name: (start, len), .. } => start + len + 19,
-                Element::ErrorField(_, start, len) => start + len + 1,
-                _ => at + 4,
-            };
-            let mut expected = numbers::of_element(&element);
-            expected[3] = next;
-            let got = ours::item(part, &buf[..*consumed], at);
-            if got != expected {
-                self.fail("another item", mode, buf, format!("at {at}: ours {got:?}\n  model {expected:?}"));
+        match model::lists(k, slots).first() {
+            Some((part, start, count)) if WALKED.contains(part) && *count <= READ_WHOLE => {
+                let mut at = *start;
+                for _ in 0..*count {
+                    at = self.item_at(mode, *part, &buf[..*consumed], at);
+                }
             }
-            self.items += 1;
-            at = next;
+            _ => {}
         }
+    }
+
+    /// Of every fourth case an item of every sort where no list may stand: at the buffer's start, where a body begins, and at the buffer's end.
+    pub(super) fn items_anywhere(&mut self, mode: u8, buf: &[u8]) {
+        if buf.len() > READ_WHOLE || self.cases % 4 != 0 {
+            return;
+        }
+        for part in WALKED {
+            for at in [0, 5, 8, buf.len()] {
+                self.item_at(mode, part, buf, at);
+            }
+        }
+    }
+
+    /// The item at a place; the next place.
+    fn item_at(&mut self, mode: u8, part: Part, frame: &[u8], at: usize) -> usize {
+        self.items += 1;
+        let item = model::item(part, frame, at);
+        let (got, expected) = (ours::item(part, frame, at), numbers::of_item(&item));
+        if got != expected {
+            self.fail("another item", mode, frame, format!("{part:?} at {at}: ours {got:?}\n  model {expected:?}"));
+        }
+        item.1
     }
 
     /// A row in one pass, into slices that are long enough, one too short, and longer.

@@ -1,7 +1,7 @@
 //! What decoding answers, and the order of its checks: FORMAT 3.
 
 use super::frame::{Frame, Slot};
-use super::kinds::{framing, kind_of, Framing, Kind, CANCEL, REFUSES};
+use super::kinds::{framing, kind_of, Framing, Kind, REFUSES};
 
 #[derive(Clone, PartialEq, Eq, Debug)]
 pub enum Answer {
@@ -22,27 +22,17 @@ fn word(bytes: &[u8]) -> i64 {
 }
 
 fn header(mode: u8, buf: &[u8], limited: bool) -> Header {
-    match framing(mode) {
-        None => refuse(1, 0),
-        Some(Framing::Untyped) => untyped(mode, buf, limited),
-        Some(_) if buf.is_empty() => Err(Answer::NeedMore),
-        Some(framing) => match kind_of(mode, buf) {
-            None => refuse(2, 0),
-            Some(kind) if framing == Framing::Bare => Ok((kind, 1)),
-            Some(_) if buf.len() < framing.body_at() => Err(Answer::NeedMore),
-            Some(kind) => Ok((kind, end(kind, buf, limited)?)),
-        },
-    }
-}
-
-fn untyped(mode: u8, buf: &[u8], limited: bool) -> Header {
-    if buf.len() < Framing::Untyped.body_at() {
+    let Some(framing) = framing(mode) else { return refuse(1, 0) };
+    if buf.len() < framing.tag_end() {
         return Err(Answer::NeedMore);
     }
-    if word(&buf[4..]) != CANCEL {
-        return refuse(2, 4);
+    let Some(kind) = kind_of(mode, buf) else { return refuse(2, framing.tag_at()) };
+    if framing == Framing::Bare {
+        return Ok((kind, 1));
     }
-    let kind = kind_of(mode, buf).expect("the kind of the code");
+    if buf.len() < framing.body_at() {
+        return Err(Answer::NeedMore);
+    }
     Ok((kind, end(kind, buf, limited)?))
 }
 

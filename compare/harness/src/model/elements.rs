@@ -36,6 +36,18 @@ pub fn element(mode: u8, buf: &[u8], list: usize, number: usize) -> Element {
     frame.element(*part).unwrap()
 }
 
+/// The item of a list at a place of a frame, and the next place.
+pub fn item(list: Part, bytes: &[u8], at: usize) -> (Element, usize) {
+    if at > bytes.len() {
+        return (Element::Refused(6, at), 0);
+    }
+    let mut frame = Frame::new(bytes, at);
+    match frame.element(list) {
+        Ok(element) => (element, frame.at),
+        Err((number, place)) => (Element::Refused(number, place), 0),
+    }
+}
+
 /// What a record means.
 pub fn content(answer: &Answer, buf: &[u8]) -> Option<Content> {
     let Answer::Record(kind, end, slots) = answer else { return None };
@@ -61,6 +73,7 @@ fn list_content(part: Part, elements: &[Element], buf: &[u8]) -> Field {
         Values => Field::Values(elements.map(|e| value_content(e, buf)).collect()),
         RowFields => Field::RowFields(elements.map(|e| row_field_content(e, buf)).collect()),
         Errors => Field::Errors(elements.map(|e| error_content(e, buf)).collect()),
+        Pairs => Field::Pairs(elements.map(|e| pair_content(e, buf)).collect()),
         _ => unreachable!("{part:?} is no list"),
     }
 }
@@ -81,4 +94,9 @@ fn row_field_content(e: &Element, buf: &[u8]) -> RowField {
 fn error_content(e: &Element, buf: &[u8]) -> (u8, Vec<u8>) {
     let Element::ErrorField(code, s, n) = *e else { panic!("{e:?}") };
     (code, buf[s..s + n].to_vec())
+}
+
+fn pair_content(e: &Element, buf: &[u8]) -> (Vec<u8>, Vec<u8>) {
+    let Element::Pair { name, value } = *e else { panic!("{e:?}") };
+    (buf[name.0..name.0 + name.1].to_vec(), buf[value.0..value.0 + value.1].to_vec())
 }

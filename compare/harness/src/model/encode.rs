@@ -1,6 +1,6 @@
 //! What an encoder is given, and what it writes: FORMAT 9.
 
-use super::kinds::{numbered, Framing, Kind, Part, CANCEL, MOST_ELEMENTS, REFUSES, STATUSES, TARGETS};
+use super::kinds::{numbered, Framing, Kind, Part, MOST_ELEMENTS, REFUSES, STATUSES, TARGETS};
 use crate::content::{Content, Field, RowField};
 use Part::*;
 
@@ -30,7 +30,7 @@ pub struct Given {
     pub results: Vec<i16>,
     /// Values: their lengths, -1 for NULL.
     pub lengths: Vec<i32>,
-    /// An error's fields: their codes and their strings' lengths.
+    /// An error's fields: their codes and their strings' lengths. A start-up's pairs have lengths alone, of name and value by turns.
     pub codes: Vec<u8>,
     pub sizes: Vec<u32>,
     /// The joined bytes of values or strings, or the run that names stand in.
@@ -43,9 +43,10 @@ pub fn encode(g: &Given, room: usize) -> Result<Vec<u8>, u8> {
     let kind = numbered(g.kind);
     let body = body(g, kind).ok_or(10u8)?;
     let frame = match kind.framing() {
-        Framing::Typed => [&[kind.tag][..], &((body.len() + 4) as u32).to_be_bytes(), &body].concat(),
-        Framing::Untyped => [&((body.len() + 8) as u32).to_be_bytes()[..], &(CANCEL as u32).to_be_bytes(), &body].concat(),
-        Framing::Bare => vec![if g.numbers[0] == 0 { kind.tag } else { REFUSES }],
+        Framing::Typed => [&kind.tag_bytes()[..], &((body.len() + 4) as u32).to_be_bytes(), &body].concat(),
+        Framing::Untyped => [&((body.len() + 8) as u32).to_be_bytes()[..], &kind.tag_bytes(), &body].concat(),
+        Framing::Bare if g.numbers[0] == 0 => kind.tag_bytes(),
+        Framing::Bare => vec![REFUSES],
     };
     if (frame.len() - kind.framing().length_at()) as i64 > kind.limit {
         return Err(4);
@@ -82,6 +83,7 @@ fn body(g: &Given, kind: &Kind) -> Option<Vec<u8>> {
             Values => out.values(&g.lengths, &g.joined)?,
             RowFields => out.row_fields(&g.row_fields, &g.joined)?,
             Errors => out.errors(&g.codes, &g.sizes, &g.joined)?,
+            Pairs => out.pairs(&g.sizes, &g.joined)?,
         }
     }
     Some(out.0)
@@ -152,20 +154,39 @@ impl Body {
     }
 
     fn errors(&mut self, codes: &[u8], sizes: &[u32], joined: &[u8]) -> Option<()> {
-        let total: u64 = sizes.iter().map(|n| *n as u64).sum();
-        if codes.len() != sizes.len() || total != joined.len() as u64 || codes.contains(&0) {
+        if codes.len() != sizes.len() || codes.contains(&0) {
             return None;
         }
-        let mut rest = joined;
-        for (code, n) in codes.iter().zip(sizes) {
-            let (text, after) = rest.split_at(*n as usize);
+        for (code, text) in codes.iter().zip(taken_apart(sizes, joined)?) {
             self.put(&[*code]);
             self.string(text)?;
-            rest = after;
         }
         self.put(&[0]);
         Some(())
     }
+
+    fn pairs(&mut self, sizes: &[u32], joined: &[u8]) -> Option<()> {
+        if sizes.len() % 2 != 0 || sizes.iter().step_by(2).any(|name| *name == 0) {
+            return None;
+        }
+        for text in taken_apart(sizes, joined)? {
+            self.string(text)?;
+        }
+        self.put(&[0]);
+        Some(())
+    }
+}
+
+/// The strings of joined bytes by their lengths, where these add up to them.
+fn taken_apart<'a>(sizes: &[u32], joined: &'a [u8]) -> Option<Vec<&'a [u8]>> {
+    let mut rest = joined;
+    let mut texts = Vec::new();
+    for n in sizes {
+        let (text, after) = rest.split_at_checked(*n as usize)?;
+        texts.push(text);
+        rest = after;
+    }
+    rest.is_empty().then_some(texts)
 }
 
 /// The arguments that are a content: what its frame means.
@@ -184,7 +205,11 @@ pub fn given(c: &Content) -> Given {
             }
             Field::Values(values) => values.iter().for_each(|v| g.give_value(v.as_deref())),
             Field::RowFields(fields) => fields.iter().for_each(|f| g.give_row_field(f)),
-            Field::Errors(errors) => errors.iter().for_each(|(code, text)| g.give_error(*code, text)),
+            Field::Errors(errors) => errors.iter().for_each(|(code, text)| {
+                g.codes.push(*code);
+                g.give_text(text);
+            }),
+            Field::Pairs(pairs) => pairs.iter().flat_map(|(name, value)| [name, value]).for_each(|text| g.give_text(text)),
             Field::Unread(_, _) => unreachable!("the Rust's form of a row"),
         }
     }
@@ -211,8 +236,7 @@ impl Given {
         self.joined.extend_from_slice(&field.name);
     }
 
-    fn give_error(&mut self, code: u8, text: &[u8]) {
-        self.codes.push(code);
+    fn give_text(&mut self, text: &[u8]) {
         self.sizes.push(text.len() as u32);
         self.joined.extend_from_slice(text);
     }

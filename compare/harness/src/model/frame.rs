@@ -20,6 +20,7 @@ pub enum Element {
     Value(usize, usize),
     Field { name: (usize, usize), table_id: i32, column_id: i16, type_id: u32, type_size: i16, type_modifier: i32, format_code: i16 },
     ErrorField(u8, usize, usize),
+    Pair { name: (usize, usize), value: (usize, usize) },
     NeedMore,
     Refused(u8, usize),
 }
@@ -30,7 +31,7 @@ pub type Read<T> = Result<T, (u8, usize)>;
 /// A frame, how far it is read, and what is being read, for whoever asks what was cut.
 pub struct Frame<'a> {
     bytes: &'a [u8],
-    at: usize,
+    pub at: usize,
     pub what: &'static str,
 }
 
@@ -113,6 +114,7 @@ impl<'a> Frame<'a> {
                 let (start, len) = self.string()?;
                 Ok(Element::ErrorField(code, start, len))
             }
+            Pairs => Ok(Element::Pair { name: self.string()?, value: self.string()? }),
             _ => unreachable!("{part:?} is no list"),
         }
     }
@@ -143,8 +145,8 @@ impl<'a> Frame<'a> {
         Ok(Slot::List(start, n as usize))
     }
 
-    /// An error's fields, which end with a zero byte in place of a code.
-    fn errors(&mut self) -> Read<Slot> {
+    /// An error's fields or a start-up's pairs, which end with a zero byte in place of a code or a name.
+    fn ended(&mut self, part: Part) -> Read<Slot> {
         let from = self.at;
         let mut n = 0;
         loop {
@@ -155,7 +157,7 @@ impl<'a> Frame<'a> {
                 self.at += 1;
                 return Ok(Slot::List(from, n));
             }
-            self.element(Errors)?;
+            self.element(part)?;
             n += 1;
         }
     }
@@ -171,7 +173,7 @@ impl<'a> Frame<'a> {
             Formats => self.list(part, 2),
             Values => self.list(part, 4),
             RowFields => self.list(part, 19),
-            Errors => self.errors(),
+            Errors | Pairs => self.ended(part),
             Rest => {
                 let rest = Slot::Span(self.at, self.left());
                 self.at = self.bytes.len();

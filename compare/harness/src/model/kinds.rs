@@ -13,6 +13,7 @@ pub enum Part {
     Values,
     RowFields,
     Errors,
+    Pairs,
     Rest,
 }
 use Part::*;
@@ -24,9 +25,6 @@ pub const REFUSES: u8 = b'N';
 
 /// As many elements as a count can say.
 pub const MOST_ELEMENTS: usize = 32_767;
-
-/// The code of a cancel request.
-pub const CANCEL: i64 = 80_877_102;
 
 /// The two limits of a length.
 const L: i64 = 1_048_576;
@@ -46,7 +44,7 @@ pub enum Framing {
 pub fn framing(mode: u8) -> Option<Framing> {
     match mode {
         0 | 1 => Some(Framing::Typed),
-        2 => Some(Framing::Untyped),
+        2 | 5 => Some(Framing::Untyped),
         3 | 4 => Some(Framing::Bare),
         _ => None,
     }
@@ -58,6 +56,22 @@ impl Framing {
         match self {
             Framing::Typed => 1,
             Framing::Untyped | Framing::Bare => 0,
+        }
+    }
+
+    /// Where what tells the kind stands: a type byte, a code or the one byte.
+    pub fn tag_at(self) -> usize {
+        match self {
+            Framing::Untyped => 4,
+            Framing::Typed | Framing::Bare => 0,
+        }
+    }
+
+    /// Where it ends.
+    pub fn tag_end(self) -> usize {
+        match self {
+            Framing::Untyped => 8,
+            Framing::Typed | Framing::Bare => 1,
         }
     }
 
@@ -75,7 +89,8 @@ pub struct Kind {
     pub number: u8,
     pub name: &'static str,
     pub mode: u8,
-    pub tag: u8,
+    /// What tells the kind: a type byte, a code or the one byte.
+    pub tag: u32,
     pub smallest: i64,
     pub limit: i64,
     pub body: &'static [Part],
@@ -92,17 +107,37 @@ impl Kind {
         self.body == [Values]
     }
 
+    /// A process and its key: CancelRequest and BackendKeyData.
+    pub fn has_key(&self) -> bool {
+        self.body == [I32, I32]
+    }
+
+    /// What is untyped and holds nothing: a request for encryption.
+    pub fn is_request(&self) -> bool {
+        self.framing() == Framing::Untyped && self.body.is_empty()
+    }
+
     pub fn framing(&self) -> Framing {
         framing(self.mode).expect("a mode of the table")
     }
+
+    /// What stands in a frame to tell the kind.
+    pub fn tag_bytes(&self) -> Vec<u8> {
+        let framing = self.framing();
+        self.tag.to_be_bytes()[4 - (framing.tag_end() - framing.tag_at())..].to_vec()
+    }
 }
 
-const fn kind(number: u8, name: &'static str, mode: u8, tag: u8, smallest: i64, limit: i64, body: &'static [Part]) -> Kind {
+const fn kind(number: u8, name: &'static str, mode: u8, byte: u8, smallest: i64, limit: i64, body: &'static [Part]) -> Kind {
+    coded(number, name, mode, byte as u32, smallest, limit, body)
+}
+
+const fn coded(number: u8, name: &'static str, mode: u8, tag: u32, smallest: i64, limit: i64, body: &'static [Part]) -> Kind {
     Kind { number, name, mode, tag, smallest, limit, body }
 }
 
-/// A line for each kind of each mode. The numbers are those at the library's boundary. What mode 2 has is told by its code, and has no tag.
-pub static KINDS: [Kind; 34] = [
+/// A line for each kind of each mode. The numbers are those at the library's boundary.
+pub static KINDS: [Kind; 42] = [
     kind(1, "Parse", 0, b'P', 8, L, &[Str, Str, Oids]),
     kind(2, "Bind", 0, b'B', 12, L, &[Str, Str, Formats, Values, Formats]),
     kind(3, "Close", 0, b'C', 6, S, &[Target, Str]),
@@ -132,16 +167,26 @@ pub static KINDS: [Kind; 34] = [
     kind(26, "CopyBothResponse", 1, b'W', 7, S, &[I8, Formats]),
     kind(27, "NotificationResponse", 1, b'A', 10, L, &[I32, Str, Str]),
     kind(9, "CopyData", 1, b'd', 4, L, &[Rest]),
-    kind(28, "CancelRequest", 2, 0, 16, S, &[I32, I32]),
+    coded(28, "CancelRequest", 2, 80_877_102, 16, S, &[I32, I32]),
     kind(29, "SslResponse", 3, b'S', 1, 1, &[]),
     kind(29, "SslResponse", 3, REFUSES, 1, 1, &[]),
     kind(30, "GssEncResponse", 4, b'G', 1, 1, &[]),
     kind(30, "GssEncResponse", 4, REFUSES, 1, 1, &[]),
+    coded(31, "Startup", 5, 196_608, 9, S, &[Pairs]),
+    coded(32, "SslRequest", 5, 80_877_103, 8, S, &[]),
+    coded(33, "GssEncRequest", 5, 80_877_104, 8, S, &[]),
+    coded(28, "CancelRequest", 5, 80_877_102, 16, S, &[I32, I32]),
+    kind(34, "Query", 0, b'Q', 5, S, &[Str]),
+    kind(35, "Terminate", 0, b'X', 4, S, &[]),
+    kind(36, "ParameterStatus", 1, b'S', 6, S, &[Str, Str]),
+    kind(37, "BackendKeyData", 1, b'K', 12, S, &[I32, I32]),
 ];
 
-/// The kind of a frame that has its header; of mode 2, with the code that is the cancel request's.
+/// The kind of a frame, where what tells it is there.
 pub fn kind_of(mode: u8, buf: &[u8]) -> Option<&'static Kind> {
-    KINDS.iter().find(|k| k.mode == mode && (k.framing() == Framing::Untyped || k.tag == buf[0]))
+    let framing = framing(mode)?;
+    let tag = buf.get(framing.tag_at()..framing.tag_end())?.iter().fold(0, |tag, b| tag << 8 | *b as u32);
+    KINDS.iter().find(|k| k.mode == mode && k.tag == tag)
 }
 
 /// The first line of a kind's number: of an answer the one that accepts, of what both sides send the frontend's.

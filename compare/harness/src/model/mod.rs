@@ -9,7 +9,7 @@ mod kinds;
 pub mod numbers;
 
 pub use decode::{decode, decode_unlimited, fault, Answer};
-pub use elements::{content, element, lists};
+pub use elements::{content, element, item, lists};
 pub use encode::{encode, given, Given, RowFieldGiven};
 pub use frame::Element;
 pub use kinds::{framing, kind_of, named, numbered, Framing, Kind, Part, KINDS, MOST_ELEMENTS, REFUSES, STATUSES, TARGETS};

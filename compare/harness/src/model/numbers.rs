@@ -74,7 +74,15 @@ pub fn of_element(e: &Element) -> Numbers {
             bits(format_code as i64),
         ]),
         Element::ErrorField(code, s, n) => element(&[6, code as usize, s, n]),
+        Element::Pair { name, value } => element(&[7, name.0, name.1, value.0, value.1]),
         Element::NeedMore => need_more(),
         Element::Refused(number, place) => refused(number, place),
     }
+}
+
+/// What a call for the item at a place answers, with the next place.
+pub fn of_item((item, next): &(Element, usize)) -> Numbers {
+    let mut numbers = of_element(item);
+    numbers[3] = *next;
+    numbers
 }

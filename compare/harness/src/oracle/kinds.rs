@@ -1,12 +1,12 @@
 //! What goes kind by kind: a row for each message of the Rust that is a kind here, and what the Rust's source says of types and limits.
 
-use super::read::{columns, errors, key, maybe, nullable, num, row_fields, text};
-use super::write::{error_fields, formats, int, joined_values, named, oids, parameters, rest, row_descriptions, utf8, width};
+use super::read::{columns, errors, key, maybe, nullable, num, pairs, row_fields, text};
+use super::write::{error_fields, formats, int, joined_values, named, oids, parameters, rest, row_descriptions, started, utf8, width};
 use crate::content::{Content, Field};
 use pgwire::messages::response::{GssEncResponse, SslResponse, TransactionStatus};
-use pgwire::messages::startup::SecretKey;
-use pgwire::messages::{cancel, copy, data, extendedquery as eq, response};
-use pgwire::messages::{Message, PgWireBackendMessage as Back, PgWireFrontendMessage as Front};
+use pgwire::messages::startup::{GssEncRequest, SecretKey, SslRequest};
+use pgwire::messages::{cancel, copy, data, extendedquery as eq, response, simplequery, startup, terminate};
+use pgwire::messages::{Message, PgWireBackendMessage as Back, PgWireFrontendMessage as Front, SslNegotiationMetaMessage as Asked};
 
 /// The limits of a length, as the Rust's messages/mod.rs has them. A message has the one that its `max_message_length` names, else the first.
 const SMALL: i64 = 10_000;
@@ -40,7 +40,7 @@ macro_rules! rows {
             })
         }
 
-        /// A content as the Rust's message; None where it has no form for it: text that is no UTF-8, a status that is none.
+        /// A content as the Rust's message; None where it has no form for it: text that is no UTF-8, a status that is none, a name twice.
         pub fn $made(c: &Content) -> Option<$side> {
             Some(match c.kind {
                 $($($number => {
@@ -75,6 +75,9 @@ rows! { FRONT, read_front, made_front, Front:
     10 copy::CopyFail SMALL, m => [text(&m.message)], [message] => copy::CopyFail::new(utf8(message)?);
     28 cancel::CancelRequest SMALL, m => [num(m.pid), key(&m.secret_key)],
         [pid, key] => cancel::CancelRequest::new(int(pid) as i32, SecretKey::I32(int(key) as i32));
+    31 startup::Startup SMALL, m => [pairs(&m.parameters)], [pairs] => started(pairs)?;
+    34 simplequery::Query LARGE, m => [text(&m.query)], [query] => simplequery::Query::new(utf8(query)?);
+    35 terminate::Terminate SMALL, _ => [], [] => terminate::Terminate::new();
 }
 
 rows! { BACK, read_back, made_back, Back:
@@ -109,6 +112,33 @@ rows! { BACK, read_back, made_back, Back:
         [refuses] => if int(refuses) == 0 { SslResponse::Accept } else { SslResponse::Refuse };
     30 response::GssEncResponse SMALL, m => [num((m == GssEncResponse::Refuse) as u8)],
         [refuses] => if int(refuses) == 0 { GssEncResponse::Accept } else { GssEncResponse::Refuse };
+    36 startup::ParameterStatus SMALL_BACKEND, m => [text(&m.name), text(&m.value)],
+        [name, value] => startup::ParameterStatus::new(utf8(name)?, utf8(value)?);
+    37 startup::BackendKeyData SMALL_BACKEND, m => [num(m.pid), key(&m.secret_key)],
+        [pid, key] => startup::BackendKeyData::new(int(pid) as i32, SecretKey::I32(int(key) as i32));
+}
+
+/// The requests for encryption: the Rust has them as answers to what is asked of a first packet. It looks at no length of theirs, so they have no limit.
+const SSL_REQUEST: u8 = 32;
+const GSS_ENC_REQUEST: u8 = 33;
+
+/// What a client sends, as a content.
+pub fn read_client(m: Front) -> Option<Content> {
+    let kind = match m {
+        Front::SslNegotiation(Asked::PostgresSsl(_)) => SSL_REQUEST,
+        Front::SslNegotiation(Asked::PostgresGss(_)) => GSS_ENC_REQUEST,
+        other => return read_front(other),
+    };
+    Some(Content { kind, fields: vec![] })
+}
+
+/// A content as what a client sends.
+pub fn made_client(c: &Content) -> Option<Front> {
+    Some(Front::SslNegotiation(match c.kind {
+        SSL_REQUEST => Asked::PostgresSsl(SslRequest::new()),
+        GSS_ENC_REQUEST => Asked::PostgresGss(GssEncRequest::new()),
+        _ => return made_front(c),
+    }))
 }
 
 /// The Rust's limit of a kind's length.

@@ -7,10 +7,11 @@ mod write;
 pub use kinds::{left_out, limit};
 
 use crate::content::Content;
-use crate::model::numbered;
+use crate::model::{framing, numbered, Framing};
 use bytes::BytesMut;
-use pgwire::error::PgWireError;
+use pgwire::error::{PgWireError, PgWireResult};
 use pgwire::messages::cancel::CancelRequest;
+use pgwire::messages::SslNegotiationMetaMessage as Asked;
 use pgwire::messages::{DecodeContext, Message, PgWireBackendMessage as Back, PgWireFrontendMessage as Front, ProtocolVersion};
 use std::hint::black_box;
 use std::panic::{catch_unwind, AssertUnwindSafe};
@@ -48,18 +49,31 @@ fn name(e: &PgWireError) -> &'static str {
         PgWireError::InvalidTransactionStatus(_) => "InvalidTransactionStatus",
         PgWireError::InvalidCancelRequest => "InvalidCancelRequest",
         PgWireError::InvalidSecretKey => "InvalidSecretKey",
+        PgWireError::InvalidStartupMessage => "InvalidStartupMessage",
         _ => "another error",
     }
 }
 
 pub fn context(mode: u8) -> DecodeContext {
-    // Cancel is compared under 3.0, where the key has four bytes.
+    // Keys are compared under 3.0, where they have four bytes.
     let mut c = DecodeContext::new(ProtocolVersion::PROTOCOL3_0);
-    c.awaiting_frontend_ssl = false;
-    c.awaiting_frontend_startup = false;
+    c.awaiting_frontend_ssl = mode == 5;
+    c.awaiting_frontend_startup = mode == 5;
     c.awaiting_backend_ssl_response = mode == 3;
     c.awaiting_backend_gss_response = mode == 4;
     c
+}
+
+/// A first packet as the Rust's own server reads it: where it is no request for encryption, the start-up is awaited.
+fn first_packet(bytes: &mut BytesMut, ctx: &DecodeContext) -> PgWireResult<Option<Front>> {
+    match Front::decode(bytes, ctx)? {
+        Some(Front::SslNegotiation(Asked::None)) => {
+            let mut startup = context(5);
+            startup.awaiting_frontend_ssl = false;
+            Front::decode(bytes, &startup)
+        }
+        other => Ok(other),
+    }
 }
 
 /// The answer, and how many bytes are gone from the buffer.
@@ -68,8 +82,9 @@ pub fn decode(mode: u8, buf: &[u8]) -> (Seen, usize) {
     let answer = caught(|| {
         let ctx = context(mode);
         match mode {
-            0 => Front::decode(&mut bytes, &ctx).map(|m| m.map(kinds::read_front)),
-            2 => CancelRequest::decode(&mut bytes, &ctx).map(|m| m.map(Front::CancelRequest).map(kinds::read_front)),
+            0 => Front::decode(&mut bytes, &ctx).map(|m| m.map(kinds::read_client)),
+            2 => CancelRequest::decode(&mut bytes, &ctx).map(|m| m.map(Front::CancelRequest).map(kinds::read_client)),
+            5 => first_packet(&mut bytes, &ctx).map(|m| m.map(kinds::read_client)),
             _ => Back::decode(&mut bytes, &ctx).map(|m| m.map(kinds::read_back)),
         }
     });
@@ -88,11 +103,12 @@ pub enum Either {
     Back(Back),
 }
 
-/// What a client can send, cancel requests too, as such a message; all else as a server's.
+/// What a client can send, first packets too, as such a message; all else as a server's.
 pub fn message(c: &Content) -> Option<Either> {
-    match numbered(c.kind).mode {
-        0 | 2 => kinds::made_front(c).map(Either::Front),
-        _ => kinds::made_back(c).map(Either::Back),
+    let mode = numbered(c.kind).mode;
+    match mode == 0 || framing(mode) == Some(Framing::Untyped) {
+        true => kinds::made_client(c).map(Either::Front),
+        false => kinds::made_back(c).map(Either::Back),
     }
 }
 
@@ -118,6 +134,7 @@ pub fn decode_bare(mode: u8, mut bytes: BytesMut, ctx: &DecodeContext) {
     match mode {
         0 => drop(black_box(Front::decode(&mut bytes, ctx))),
         2 => drop(black_box(CancelRequest::decode(&mut bytes, ctx))),
+        5 => drop(black_box(first_packet(&mut bytes, ctx))),
         _ => drop(black_box(Back::decode(&mut bytes, ctx))),
     }
 }

@@ -4,6 +4,7 @@ use crate::content::{Field, RowField};
 use bytes::Bytes;
 use pgwire::messages::data::RowDescription;
 use pgwire::messages::startup::SecretKey;
+use std::collections::BTreeMap;
 
 pub fn num(n: impl Into<i64>) -> Field {
     Field::Num(n.into())
@@ -37,6 +38,10 @@ pub fn row_fields(m: &RowDescription) -> Field {
 
 pub fn errors(fields: &[(u8, String)]) -> Field {
     Field::Errors(fields.iter().map(|(c, s)| (*c, s.as_bytes().to_vec())).collect())
+}
+
+pub fn pairs(parameters: &BTreeMap<String, String>) -> Field {
+    Field::Pairs(parameters.iter().map(|(name, value)| (name.as_bytes().to_vec(), value.as_bytes().to_vec())).collect())
 }
 
 /// `columns` stands beside the list: it is compared too.

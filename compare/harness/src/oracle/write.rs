@@ -1,12 +1,17 @@
-//! Fields as the parts of the Rust's messages; None where a text is no UTF-8.
+//! Fields as the parts of the Rust's messages; None where a text is no UTF-8, or a name stands there twice.
 
 use crate::content::{joined, Field};
 use bytes::{Bytes, BytesMut};
 use pgwire::messages::data::FieldDescription;
+use pgwire::messages::startup::Startup;
 
 pub fn utf8(f: &Field) -> Option<String> {
     let Field::Text(t) = f else { panic!("{f:?}") };
-    String::from_utf8(t.clone()).ok()
+    string(t)
+}
+
+fn string(bytes: &[u8]) -> Option<String> {
+    String::from_utf8(bytes.to_vec()).ok()
 }
 
 /// An empty name is the Rust's None.
@@ -58,15 +63,27 @@ pub fn rest(f: &Field) -> Bytes {
 
 pub fn error_fields(f: &Field) -> Option<Vec<(u8, String)>> {
     let Field::Errors(v) = f else { panic!("{f:?}") };
-    v.iter().map(|(c, s)| Some((*c, String::from_utf8(s.clone()).ok()?))).collect()
+    v.iter().map(|(c, s)| Some((*c, string(s)?))).collect()
 }
 
 pub fn row_descriptions(f: &Field) -> Option<Vec<FieldDescription>> {
     let Field::RowFields(v) = f else { panic!("{f:?}") };
     v.iter()
         .map(|f| {
-            let name = String::from_utf8(f.name.clone()).ok()?;
+            let name = string(&f.name)?;
             Some(FieldDescription::new(name, f.table_id, f.column_id, f.type_id, f.type_size, f.type_modifier, f.format_code))
         })
         .collect()
+}
+
+/// A start-up of protocol 3.0. Its parameters are a map, which has each name once.
+pub fn started(f: &Field) -> Option<Startup> {
+    let Field::Pairs(v) = f else { panic!("{f:?}") };
+    let mut startup = Startup::new();
+    for (name, value) in v {
+        if startup.parameters.insert(string(name)?, string(value)?).is_some() {
+            return None;
+        }
+    }
+    Some(startup)
 }
