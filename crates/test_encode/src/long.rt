@@ -56,7 +56,7 @@ fn counted(mut case: Case) -> Case {
 }
 
 // A start-up with the lengths that are given: the byte is joined, `len` times.
-fn call_with_lengths(by_boundary: bool, mut case: Case, out: &mut [u8]) -> Encoded {
+pub fn call_with_lengths(by_boundary: bool, mut case: Case, out: &mut [u8]) -> Encoded {
     let bytes = full((case.start % 256) as u8);
     let given = case;
     case.joined_len = case.len;
@@ -73,9 +73,6 @@ fn call_with_lengths(by_boundary: bool, mut case: Case, out: &mut [u8]) -> Encod
 }
 
 pub fn call(by_boundary: bool, case: Case, out: &mut [u8]) -> Encoded {
-    if case::has_lengths(case) {
-        return call_with_lengths(by_boundary, case, out);
-    }
     let byte = (case.start % 256) as u8;
     let given = case;
     let bytes = full(byte);
