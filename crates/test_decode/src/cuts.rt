@@ -94,10 +94,10 @@ fn with_length(frame: [u8; ROOM], place: usize, length: usize) -> [u8; ROOM]
 fn mended(mode: u8, frame: [u8; ROOM], total: usize) -> [u8; ROOM]
     requires { ⌜ 0 < total ⌝ }
 {
-    if mode == 2 {
-        with_length(frame, 0, total)
-    } else {
+    if mode < 2 {
         with_length(frame, 1, total - 1)
+    } else {
+        with_length(frame, 0, total)
     }
 }
 
@@ -138,6 +138,7 @@ pub fn write_cuts(mode: u8, frame: [u8; ROOM], count: usize) {
         0 => write_runs(mode, frame, 5, count + 1),
         1 => write_runs(mode, frame, 5, count + 1),
         2 => write_runs(mode, frame, 8, count + 1),
+        5 => write_runs(mode, frame, 8, count + 1),
         _ => test_cases::write(b"no length to mend"),
     }
 }

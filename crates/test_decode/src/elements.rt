@@ -37,6 +37,10 @@ fn write_element(element: Element) {
             record::write_letter(b"ErrorField ", code);
             record::write_span(b" ", string);
         }
+        Element::Pair(name, value) => {
+            record::write_span(b"Pair ", name);
+            record::write_span(b" ", value);
+        }
         Element::NeedMore => test_cases::write(b"need-more"),
         Element::Refused(number, place) => test_cases::write_refused(number, place),
     }

@@ -155,7 +155,11 @@ pub fn call<'a>(
 
 fn encode_in(by_boundary: bool, case: Case, out: &mut [u8]) -> Encoded {
     let given = case;
-    if (case.kind != case::ROW_DESCRIPTION) & (case.size_count == 4) {
+    let repeated = (case.kind != case::ROW_DESCRIPTION) & (case.size_count == 4);
+    if repeated & case::has_lengths(case) {
+        return long::call_with_lengths(by_boundary, case, out);
+    }
+    if repeated {
         return long::call(by_boundary, case, out);
     }
     call(

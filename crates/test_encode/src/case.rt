@@ -11,6 +11,8 @@ pub const MANY: usize = MOST_SIGNED + 1;
 
 pub const ROW_DESCRIPTION: usize = 17;
 
+pub const STARTUP: usize = 31;
+
 // What is being read, in the order of a line. From BYTE to JOINED the digits are hexadecimal.
 const NAME: usize = 0;
 
@@ -99,7 +101,7 @@ pub fn start() -> Case {
 
 // The kinds of the boundary's call with lists; and 0, which is none.
 pub fn has_list(kind: usize) -> bool {
-    (kind < 3) | ((17 < kind) & (kind < 20)) | ((21 < kind) & (kind < 27))
+    (kind < 3) | ((17 < kind) & (kind < 20)) | ((21 < kind) & (kind < 27)) | (kind == STARTUP)
 }
 
 // ErrorResponse and NoticeResponse, whose codes are the section ONE.
@@ -107,10 +109,16 @@ pub fn is_error(kind: usize) -> bool {
     (kind == 22) | (kind == 23)
 }
 
-// Whether the line gives a byte and how often, and nothing else but the section BYTE.
+// Whether the line gives the lengths of a start-up's strings, and no joined bytes.
+pub fn has_lengths(case: Case) -> bool {
+    (case.kind == STARTUP) & (case.section == NUMBERS) & (case.joined_len == 0)
+}
+
+// Whether the line gives a byte and how often, and nothing else but the section BYTE, or a start-up's lengths.
 fn is_repeated(case: Case) -> bool {
     let most = (case.len <= MANY) | (!has_list(case.kind) & (case.len <= ROOM));
-    (case.size_count == 4) & (case.start < 256) & most & (case.section <= BYTE)
+    let alone = (case.section <= BYTE) | has_lengths(case);
+    (case.size_count == 4) & (case.start < 256) & most & alone
 }
 
 // Whether a line that was read is a case: it has as many sizes as its kind takes.

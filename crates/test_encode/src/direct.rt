@@ -1,10 +1,13 @@
-// The encoder of each kind, by the kind's number. The kinds go by the Rust's files: one function of all thirty takes the checker far longer.
+// The encoder of each kind, by the kind's number. The kinds go by the Rust's files: one function of all of them takes the checker far longer.
 // Where there is no encoder, for a kind or an answer that is none, it is 2 at place 0, which is the boundary's answer.
 use encode::cancel;
 use encode::copy;
 use encode::data;
 use encode::extendedquery;
 use encode::response;
+use encode::simplequery;
+use encode::startup;
+use encode::terminate;
 use protocol::Encoded;
 use protocol::refusal::TYPE_UNKNOWN;
 use protocol::response::GssEncResponse;
@@ -67,6 +70,22 @@ fn by_query(kind: usize, byte: u8, first: i32, one: &[u8], out: &mut [u8]) -> En
     }
 }
 
+fn by_startup(
+    kind: usize,
+    first: i32,
+    second: i32,
+    one: &[u8],
+    two: &[u8],
+    out: &mut [u8],
+) -> Encoded {
+    match kind {
+        32 => startup::ssl_request(out),
+        33 => startup::gss_enc_request(out),
+        36 => startup::parameter_status(one, two, out),
+        _ => startup::backend_key_data(first, second, out),
+    }
+}
+
 // The kinds without a list.
 pub fn plain(
     kind: usize,
@@ -82,6 +101,9 @@ pub fn plain(
         8..=10 => by_copy(kind, one, out),
         15 => data::no_data(out),
         28 => cancel::cancel_request(first, second, out),
+        32..=33 | 36..=37 => by_startup(kind, first, second, one, two, out),
+        34 => simplequery::query(one, out),
+        35 => terminate::terminate(out),
         _ => by_response(kind, byte, first, one, two, out),
     }
 }
@@ -109,6 +131,7 @@ pub fn listed(
         24 => copy::copy_in_response(format, formats, out),
         25 => copy::copy_out_response(format, formats, out),
         26 => copy::copy_both_response(format, formats, out),
+        31 => startup::startup(words, joined, out),
         _ => Encoded::Refused(TYPE_UNKNOWN, 0),
     }
 }

@@ -55,6 +55,23 @@ fn counted(mut case: Case) -> Case {
     case
 }
 
+// A start-up with the lengths that are given: the byte is joined, `len` times.
+pub fn call_with_lengths(by_boundary: bool, mut case: Case, out: &mut [u8]) -> Encoded {
+    let bytes = full((case.start % 256) as u8);
+    let given = case;
+    case.joined_len = case.len;
+    calls::call(
+        by_boundary,
+        case,
+        &bytes,
+        &given.words,
+        &given.numbers,
+        &given.formats,
+        &given.results,
+        out,
+    )
+}
+
 pub fn call(by_boundary: bool, case: Case, out: &mut [u8]) -> Encoded {
     let byte = (case.start % 256) as u8;
     let given = case;

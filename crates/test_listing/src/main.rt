@@ -151,8 +151,9 @@ fn main() {
     print_same(b'4', b'N', 65537);
     write(b"# one byte more\n");
     print_same(b'3', b'S', 65538);
-    write(b"# one byte more, and no mode: the mode is tested first\n");
     print_same(b'5', b'S', 65538);
+    write(b"# one byte more, and no mode: the mode is tested first\n");
+    print_same(b'6', b'S', 65538);
     write(b"# a frame of 65,536 bytes\n");
     print_large();
 }
