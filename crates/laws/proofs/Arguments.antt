@@ -1,5 +1,5 @@
 -- Which content lists of arguments are, item by item, and when they are none.
-use Prim.Native.Nat.{ℕ, zero, suc, _+_, _≤_, _<_}
+use Prim.Native.Nat.{ℕ, zero, suc, _+_, _*_, _≤_, _<_}
 use mathlib.Core.Bool.{Bool, true, false, cond, false≢true}
 use mathlib.Core.List.{List, [], _∷_}
 use mathlib.Core.Logic.{_⊎_, inl, inr, ⊎-elim, ⊎-map, _↔_}
@@ -12,14 +12,14 @@ use lib.IntN.{ℤ, pos, negsuc}
 use lib.ListN.{length, take, drop, length-drop, length-take}
 use lib.Seq.{drop-drop}
 use Rattle.protocol.specs.declared.data.FieldDescription.{FieldDescription}
-use Rattle.protocol.specs.Encode.{items, oneBefore, valuesGiven, errorFieldsGiven, rowFieldGiven, rowFieldsGiven}
+use Rattle.protocol.specs.Encode.{items, oneBefore, valuesGiven, errorFieldsGiven, orNone, textsGiven, byTurns, pairsGiven, rowFieldGiven, rowFieldsGiven}
 use Rattle.protocol.specs.Bytes.{Bytes, partOf}
 use Rattle.protocol.specs.Each.{HoldsEach}
 use Rattle.protocol.specs.Fields.{ItemContent, ValueInRange, AtomInRange, ItemInRange, ItemsInRange}
-use Rattle.protocol.specs.Kinds.{oid, format, nullable, rowField, errorField}
+use Rattle.protocol.specs.Kinds.{oid, format, nullable, rowField, errorField, pair}
 use Rattle.protocol.proofs.Basics.{zero-one}
 use Rattle.laws.specs.Arguments.{nth, Some, All, Unsigned, Signed, TypedField, itself, sizeOf, total, BelowNull, valueAt, Outside}
-use Rattle.laws.specs.EncodeStatements.{Values, ErrorFields, RowFieldIs, RowFields, NumberItems, ArgumentsInRange}
+use Rattle.laws.specs.EncodeStatements.{Values, ErrorFields, Pairs, RowFieldIs, RowFields, NumberItems, ArgumentsInRange}
 use Rattle.laws.proofs.Numbers.{bytes-take, bytes-drop}
 
 -- ---- options
@@ -198,6 +198,127 @@ error-fields cs ns bs = record {
   none = none-exactly (errorFieldsGiven cs ns bs) (λ fs e. ⊎-elim (λ w. w (errors-right cs ns bs fs e .1)) (λ w. w (errors-right cs ns bs fs e .2))) (errors-wrong cs ns bs);
 }
 
+-- ---- start-up arguments: strings by their lengths, and these by turns
+
+-- the first string, and those after it
+record FirstText (n : ℕ) (ns bs : List ℕ) (ts : List (List ℕ)) : Type 0 where
+  fits : n ≤ length bs
+  rest : List (List ℕ)
+  was : textsGiven ns (drop n bs) ≡ some rest
+  is : ts ≡ take n bs ∷ rest
+
+first-text : (n : ℕ) (ns bs : List ℕ) (ts : List (List ℕ)) → textsGiven (n ∷ ns) bs ≡ some ts → FirstText n ns bs ts
+unfolding textsGiven
+first-text n ns bs ts e =
+    let t = let-through (leb n (length bs)) _ ts e in
+    let b = before (take n bs) (textsGiven ns (drop n bs)) ts (t .1) in
+    record { fits = leb-true _ _ (t .0); rest = b .rest; was = b .was; is = b .is }
+
+texts-items : (ns bs : List ℕ) (ts : List (List ℕ)) → textsGiven ns bs ≡ some ts → (i n : ℕ) → nth ns i ≡ some n → nth ts i ≡ some (take n (drop (total itself (take i ns)) bs))
+unfolding nth total
+texts-items [] bs ts e i n h = absurd (zero-one cc)
+texts-items (m ∷ ns) bs ts e zero n h =
+    let q : m ≡ n = cc in
+    let f = first-text m ns bs ts e in
+    rw (f .is, q) refl
+texts-items (m ∷ ns) bs ts e (suc i) n h =
+    let f = first-text m ns bs ts e in
+    rw (f .is) (texts-items ns (drop m bs) (f .rest) (f .was) i n h ∙ rw (drop-drop (total itself (take i ns)) m bs) refl)
+
+texts-right : (ns bs : List ℕ) (ts : List (List ℕ)) → textsGiven ns bs ≡ some ts → (length ns ≡ length ts) × (total itself ns ≡ length bs)
+unfolding textsGiven total
+texts-right [] [] ts e = let q : [] ≡ ts = cc in (rw (← q) refl, refl)
+texts-right [] (b ∷ bs) ts e = absurd (zero-one cc)
+texts-right (n ∷ ns) bs ts e =
+    let f = first-text n ns bs ts e in
+    let ih = texts-right ns (drop n bs) (f .rest) (f .was) in
+    (rw (f .is) (ap suc (ih .0)), omega (arith, f .fits, simp length-drop at (ih .1)))
+
+texts-wrong : (ns bs : List ℕ) → textsGiven ns bs ≡ none → total itself ns ≡ length bs → ⊥
+unfolding textsGiven total
+texts-wrong [] [] e = absurd (zero-one cc)
+texts-wrong [] (b ∷ bs) e = λ h. omega arith
+texts-wrong (n ∷ ns) bs e =
+    total-wrong itself n ns bs (⊎-map (λ t. t) (λ h. texts-wrong ns (drop n bs) h) (none-by (take n bs) (textsGiven ns (drop n bs)) (leb n (length bs)) e))
+
+twice : (i : ℕ) → 2 * suc i ≡ suc (suc (2 * i))
+twice i = omega arith
+
+turns-items : (ts : List (List ℕ)) (ps : List (ItemContent pair)) → byTurns ts ≡ some ps → (i : ℕ) (name value : List ℕ) → nth ts (2 * i) ≡ some name → nth ts (suc (2 * i)) ≡ some value → nth ps i ≡ some (name, (value, tt))
+unfolding byTurns nth
+turns-items [] ps e i name value h g = absurd (zero-one cc)
+turns-items (a ∷ []) ps e i name value h g = absurd (zero-one cc)
+turns-items (a ∷ b ∷ ts) ps e zero name value h g =
+    let f = before (a, (b, tt)) (byTurns ts) ps e in
+    let q : a ≡ name = cc in
+    let p : b ≡ value = cc in
+    rw (f .is, q, p) refl
+turns-items (a ∷ b ∷ ts) ps e (suc i) name value h g =
+    let f = before (a, (b, tt)) (byTurns ts) ps e in
+    rw (f .is) (turns-items ts (f .rest) (f .was) i name value (rw (twice i) at h) (rw (twice i) at g))
+
+turns-many : (ts : List (List ℕ)) (ps : List (ItemContent pair)) → byTurns ts ≡ some ps → length ts ≡ 2 * length ps
+unfolding byTurns
+turns-many [] ps e = let q : [] ≡ ps = cc in rw (← q) refl
+turns-many (a ∷ []) ps e = absurd (zero-one cc)
+turns-many (a ∷ b ∷ ts) ps e =
+    let f = before (a, (b, tt)) (byTurns ts) ps e in
+    rw (f .is) (omega (arith, turns-many ts (f .rest) (f .was)))
+
+turns-wrong : (ts : List (List ℕ)) → byTurns ts ≡ none → (half : ℕ) → length ts ≡ 2 * half → ⊥
+unfolding byTurns
+turns-wrong [] e half h = absurd (zero-one cc)
+turns-wrong (a ∷ []) e half h = omega arith
+turns-wrong (a ∷ b ∷ ts) e zero h = omega arith
+turns-wrong (a ∷ b ∷ ts) e (suc half) h = turns-wrong ts (by (byTurns ts) e) half (omega arith)
+  where
+    by : (o : Option (List (ItemContent pair))) → oneBefore (a, (b, tt)) o ≡ none → o ≡ none
+    by none e = refl
+    by (some ps) e = absurd (zero-one cc)
+
+-- what is made of the strings, if there are any
+record Made (ns bs : List ℕ) (ps : List (ItemContent pair)) : Type 0 where
+  texts : List (List ℕ)
+  were : textsGiven ns bs ≡ some texts
+  turns : byTurns texts ≡ some ps
+
+made : (ns bs : List ℕ) (ps : List (ItemContent pair)) → pairsGiven ns bs ≡ some ps → Made ns bs ps
+unfolding pairsGiven
+made ns bs ps e = by (textsGiven ns bs) refl e
+  where
+    by : (o : Option (List (List ℕ))) → textsGiven ns bs ≡ o → orNone byTurns o ≡ some ps → Made ns bs ps
+    by none h e = absurd (zero-one cc)
+    by (some ts) h e = record { texts = ts; were = h; turns = e }
+
+pairs-items : (ns bs : List ℕ) (ps : List (ItemContent pair)) → pairsGiven ns bs ≡ some ps → (i name value : ℕ) → nth ns (2 * i) ≡ some name → nth ns (2 * i + 1) ≡ some value
+    → nth ps i ≡ some (take name (drop (total itself (take (2 * i) ns)) bs), (take value (drop (total itself (take (2 * i + 1) ns)) bs), tt))
+pairs-items ns bs ps e i name value h g =
+    let m = made ns bs ps e in
+    let next : 2 * i + 1 ≡ suc (2 * i) = omega arith in
+    rw next
+    (turns-items (m .texts) ps (m .turns) i _ _ (texts-items ns bs (m .texts) (m .were) (2 * i) name h)
+    (texts-items ns bs (m .texts) (m .were) (suc (2 * i)) value (rw next at g)))
+
+pairs-many : (ns bs : List ℕ) (ps : List (ItemContent pair)) → pairsGiven ns bs ≡ some ps → length ns ≡ 2 * length ps
+pairs-many ns bs ps e = let m = made ns bs ps e in texts-right ns bs (m .texts) (m .were) .0 ∙ turns-many (m .texts) ps (m .turns)
+
+pairs-wrong : (ns bs : List ℕ) → pairsGiven ns bs ≡ none → ((half : ℕ) → length ns ≡ 2 * half → ⊥) ⊎ (total itself ns ≡ length bs → ⊥)
+unfolding pairsGiven
+pairs-wrong ns bs e = by (textsGiven ns bs) refl e
+  where
+    by : (o : Option (List (List ℕ))) → textsGiven ns bs ≡ o → orNone byTurns o ≡ none → ((half : ℕ) → length ns ≡ 2 * half → ⊥) ⊎ (total itself ns ≡ length bs → ⊥)
+    by none h e = inr (texts-wrong ns bs h)
+    by (some ts) h e = inl (λ half q. turns-wrong ts e half (sym (texts-right ns bs ts h .0) ∙ q))
+
+pub pairs : Pairs
+pairs ns bs = record {
+  items = pairs-items ns bs;
+  many = pairs-many ns bs;
+  none = none-exactly (pairsGiven ns bs)
+      (λ ps e. ⊎-elim (λ w. w (length ps) (pairs-many ns bs ps e)) (λ w. let m = made ns bs ps e in w (texts-right ns bs (m .texts) (m .were) .1)))
+      (pairs-wrong ns bs);
+}
+
 -- ---- a row's fields
 
 abbrev inside : FieldDescription → List ℕ → Bool
@@ -298,6 +419,25 @@ errors-range (c ∷ cs) (n ∷ ns) bs fs h b e =
     let f = first-error c n cs ns bs fs e in
     rw (f .is) ((h .0, (bytes-take n bs b, tt)), errors-range cs ns (drop n bs) (f .rest) (h .1) (bytes-drop n bs b) (f .was))
 
+texts-range : (ns bs : List ℕ) (ts : List (List ℕ)) → Bytes bs → textsGiven ns bs ≡ some ts → All Bytes ts
+unfolding All textsGiven
+texts-range [] [] ts b e = let q : [] ≡ ts = cc in rw (← q) tt
+texts-range [] (x ∷ bs) ts b e = absurd (zero-one cc)
+texts-range (n ∷ ns) bs ts b e =
+    let f = first-text n ns bs ts e in
+    rw (f .is) (bytes-take n bs b, texts-range ns (drop n bs) (f .rest) (bytes-drop n bs b) (f .was))
+
+turns-range : (ts : List (List ℕ)) (ps : List (ItemContent pair)) → All Bytes ts → byTurns ts ≡ some ps → ItemsInRange pair ps
+unfolding All byTurns ItemsInRange ItemInRange HoldsEach AtomInRange
+turns-range [] ps h e = let q : [] ≡ ps = cc in rw (← q) tt
+turns-range (a ∷ []) ps h e = absurd (zero-one cc)
+turns-range (a ∷ b ∷ ts) ps h e =
+    let f = before (a, (b, tt)) (byTurns ts) ps e in
+    rw (f .is) ((h .0, (h .1 .0, tt)), turns-range ts (f .rest) (h .1 .1) (f .was))
+
+pairs-range : (ns bs : List ℕ) (ps : List (ItemContent pair)) → Bytes bs → pairsGiven ns bs ≡ some ps → ItemsInRange pair ps
+pairs-range ns bs ps b e = let m = made ns bs ps e in turns-range (m .texts) ps (texts-range ns bs (m .texts) b (m .were)) (m .turns)
+
 rows-range : (ds : List FieldDescription) (run : List ℕ) (fs : List (ItemContent rowField)) → All TypedField ds → Bytes run → rowFieldsGiven ds run ≡ some fs → ItemsInRange rowField fs
 unfolding All rowFieldsGiven ItemsInRange ItemInRange HoldsEach AtomInRange
 rows-range [] run fs h b e = let q : [] ≡ fs = cc in rw (← q) tt
@@ -308,4 +448,4 @@ rows-range (d ∷ ds) run fs h b e =
     rw (f .is) ((name, (t .table, (t .column, (t .type, (t .size, (t .modifier, (t .format, tt))))))), rows-range ds run (f .rest) (h .1) b (f .was))
 
 pub in-range : ArgumentsInRange
-in-range = record { oids = oids-range; formats = formats-range; values = values-range; errorFields = errors-range; rowFields = rows-range }
+in-range = record { oids = oids-range; formats = formats-range; values = values-range; errorFields = errors-range; pairs = pairs-range; rowFields = rows-range }

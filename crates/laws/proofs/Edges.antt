@@ -44,7 +44,23 @@ edges = (
                       (
                         refl,
                         tt,
-                        (refl, tt, tt),
+                        (
+                          refl,
+                          tt,
+                          (
+                            refl,
+                            tt,
+                            (
+                              refl,
+                              (refl, tt),
+                              (
+                                refl,
+                                tt,
+                                (refl, tt, tt),
+                              ),
+                            ),
+                          ),
+                        ),
                       ),
                     ),
                   ),

@@ -9,7 +9,7 @@ use Rattle.protocol.specs.Answers.{success, ofElement}
 use Rattle.protocol.specs.Each.{Each}
 use Rattle.protocol.specs.Elements.{valueOr}
 use Rattle.protocol.specs.Fields.{AtomSlot, Item, ItemContent, itemBytes, Field, one, counted, ended, Content}
-use Rattle.protocol.specs.Kinds.{Kind, Mode, modes, IsIn, oid, format, nullable, rowField, errorField, valueElement}
+use Rattle.protocol.specs.Kinds.{Kind, Mode, modes, IsIn, oid, format, nullable, rowField, errorField, pair, valueElement}
 use Rattle.protocol.specs.Kinds.{the-table}
 use Rattle.protocol.proofs.Find.{All, in-all}
 use Rattle.laws.specs.Items.{Found, itemFrom, found, listItem}
@@ -19,7 +19,7 @@ pub record Speaks (i : Item) : Type 0 where
   pub answers : (v : Each AtomSlot (i .atoms)) → ofElement (i .element v) ≡ success (i .element v) 0
   pub plain : (i ≡ nullable → ⊥) → (s stand : List ℕ) (v : Each AtomSlot (i .atoms)) → valueOr s stand (i .element v) ≡ []
 
--- ---- the five items
+-- ---- the items
 
 oid-speaks : Speaks oid
 unfolding ofElement valueOr
@@ -45,6 +45,10 @@ error-speaks : Speaks errorField
 unfolding ofElement valueOr
 error-speaks = record { answers = λ v. refl; plain = λ _ s stand v. refl }
 
+pair-speaks : Speaks pair
+unfolding ofElement valueOr
+pair-speaks = record { answers = λ v. refl; plain = λ _ s stand v. refl }
+
 -- ---- the lists of every row
 
 abbrev pub Speaking : List Field → Type 0
@@ -58,7 +62,7 @@ AllSpeak m = All (λ (k : Kind). Speaking (k .body)) (m .kinds)
 
 all-speak : All AllSpeak modes
 unfolding the-table
-all-speak = search (oid-speaks, format-speaks, value-speaks, field-speaks, error-speaks, tt) depth 60 fits 5000
+all-speak = search (oid-speaks, format-speaks, value-speaks, field-speaks, error-speaks, pair-speaks, tt) depth 60 fits 5000
 
 pub row-speaks : (m : Mode) → IsIn m modes → (k : Kind) → IsIn k (m .kinds) → Speaking (k .body)
 row-speaks m i k j = in-all (λ (k : Kind). Speaking (k .body)) (m .kinds) (in-all AllSpeak modes all-speak m i) k j

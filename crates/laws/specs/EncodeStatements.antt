@@ -1,7 +1,7 @@
 -- What is proved of encoding: a page to read by itself. An encoder of the kind k in the mode m is a function of the content that its arguments are,
 -- if they are one, and of the output before; it gives its answer and the output after. The theorems hold of `theEncoder`, which is what every
 -- encoder's contract says. Crate by_kind (ByName.antt) says the round trip kind by kind, by the names of the arguments.
-use Prim.Native.Nat.{ℕ, _≤_}
+use Prim.Native.Nat.{ℕ, _+_, _*_, _≤_}
 use mathlib.Core.Bool.{true}
 use mathlib.Core.List.{List, [], _∷_, _++_}
 use mathlib.Core.Logic.{_⊎_, _↔_}
@@ -15,10 +15,10 @@ use Rattle.protocol.specs.declared.data.FieldDescription.{FieldDescription}
 use Rattle.protocol.specs.Answers.{success, refusal, Unsuccessful, ofDecoded, ofEncoded}
 use Rattle.protocol.specs.Bytes.{Bytes, partOf}
 use Rattle.protocol.specs.Each.{slotsOfEach}
-use Rattle.protocol.specs.Encode.{items, valuesGiven, errorFieldsGiven, rowFieldsGiven, encodedBy, Encodes}
+use Rattle.protocol.specs.Encode.{items, valuesGiven, errorFieldsGiven, pairsGiven, rowFieldsGiven, encodedBy, Encodes}
 use Rattle.protocol.specs.Encode.{writtenBy}
 use Rattle.protocol.specs.Fields.{ItemContent, ItemsInRange, bytes, slot}
-use Rattle.protocol.specs.Kinds.{Kind, Mode, modes, IsIn, oid, format, nullable, rowField, errorField}
+use Rattle.protocol.specs.Kinds.{Kind, Mode, modes, IsIn, oid, format, nullable, rowField, errorField, pair}
 use Rattle.protocol.specs.Refusals.{lengthAboveLimit, outputTooShort, notRepresentable}
 use Rattle.protocol.specs.Rules.{rulesOf}
 use Rattle.protocol.specs.WellFormed.{Contents, bodyBytes, bodyStart, lengthOf, frame, AllInRange, allAble, recordOf}
@@ -144,6 +144,19 @@ pub record ErrorFieldsAre (codes lengths joined : List ℕ) : Type 0 where
 abbrev pub ErrorFields : Type 0
 ErrorFields = (codes lengths joined : List ℕ) → ErrorFieldsAre codes lengths joined
 
+-- Start-up arguments: one for each two lengths, its name's bytes and its value's of the joined run, each after the earlier lengths. They are none
+-- exactly where the lengths are odd in number, or do not add up to the joined bytes.
+pub record PairsAre (lengths joined : List ℕ) : Type 0 where
+  pub items : (cs : List (ItemContent pair)) → pairsGiven lengths joined ≡ some cs
+      → (i name value : ℕ) → nth lengths (2 * i) ≡ some name → nth lengths (2 * i + 1) ≡ some value
+      → nth cs i
+      ≡ some (take name (drop (total itself (take (2 * i) lengths)) joined), (take value (drop (total itself (take (2 * i + 1) lengths)) joined), tt))
+  pub many : (cs : List (ItemContent pair)) → pairsGiven lengths joined ≡ some cs → length lengths ≡ 2 * length cs
+  pub none : (pairsGiven lengths joined ≡ none) ↔ (((half : ℕ) → length lengths ≡ 2 * half → ⊥) ⊎ (total itself lengths ≡ length joined → ⊥))
+
+abbrev pub Pairs : Type 0
+Pairs = (lengths joined : List ℕ) → PairsAre lengths joined
+
 -- A row's fields: one for each record, its name's part of the run and its numbers; names may overlap. They are none exactly where a name reaches
 -- outside.
 pub record RowFieldIs (run : List ℕ) (d : FieldDescription) (c : ItemContent rowField) : Type 0 where
@@ -176,5 +189,6 @@ pub record ArgumentsInRange : Type 0 where
       → All (Signed 4) lengths → Bytes joined → valuesGiven lengths joined ≡ some cs → ItemsInRange nullable cs
   pub errorFields : (codes lengths joined : List ℕ) (cs : List (ItemContent errorField))
       → Bytes codes → Bytes joined → errorFieldsGiven codes lengths joined ≡ some cs → ItemsInRange errorField cs
+  pub pairs : (lengths joined : List ℕ) (cs : List (ItemContent pair)) → Bytes joined → pairsGiven lengths joined ≡ some cs → ItemsInRange pair cs
   pub rowFields : (fields : List FieldDescription) (run : List ℕ) (cs : List (ItemContent rowField))
       → All TypedField fields → Bytes run → rowFieldsGiven fields run ≡ some cs → ItemsInRange rowField cs
