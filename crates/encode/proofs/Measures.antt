@@ -82,6 +82,21 @@ notificationResponse pid channel payload =
     (simp (able-signed, able-text, and-true) refl)
     (simp (length-append, length-signed, length-text) (omega arith))
 
+pub parameterStatus : (name value : List ℕ)
+    → Measured K.backend K.parameterStatus (G.parameterStatus name value) K.small (noZero name && noZero value) (length name + length value + 2)
+unfolding K.backend K.parameterStatus G.parameterStatus ableEach bodyBytes bytesOfEach
+parameterStatus name value =
+    measured K.backend K.parameterStatus (name, (value, tt)) refl refl
+    (simp (able-text, and-true) refl)
+    (simp (length-append, length-text) (omega arith))
+
+pub backendKeyData : (pid key : ℤ) → Measured K.backend K.backendKeyData (G.backendKeyData pid key) K.small true 8
+unfolding K.backend K.backendKeyData G.backendKeyData ableEach bodyBytes bytesOfEach
+backendKeyData pid key =
+    measured K.backend K.backendKeyData (pid, (key, tt)) refl refl
+    (simp (able-signed, and-true) refl)
+    (simp (length-append, length-signed) (omega arith))
+
 pub fieldless : (tag : ℕ) → Measured K.frontend (G.fieldless tag) (some tt) K.small true 0
 unfolding K.frontend ableEach bodyBytes bytesOfEach
 fieldless tag = measured K.frontend (G.fieldless tag) tt refl refl refl refl

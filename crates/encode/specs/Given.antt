@@ -195,6 +195,40 @@ unfolding K.gssAccept K.gssRefuse
 gssEncResponse Gss.Accept = some tt
 gssEncResponse Gss.Refuse = some tt
 
+-- ---- startup.rs
+
+-- a request that is a length and a code alone
+abbrev pub requested : ℕ → Kind
+requested = shaped 8 []
+
+unfoldable pub sslRequest : Given K.sslRequest
+unfolding K.sslRequest
+sslRequest = some tt
+
+unfoldable pub gssEncRequest : Given K.gssEncRequest
+unfolding K.gssEncRequest
+gssEncRequest = some tt
+
+unfoldable pub parameterStatus : List ℕ → List ℕ → Given K.parameterStatus
+unfolding K.parameterStatus
+parameterStatus name value = some (name, (value, tt))
+
+unfoldable pub backendKeyData : ℤ → ℤ → Given K.backendKeyData
+unfolding K.backendKeyData
+backendKeyData pid key = some (pid, (key, tt))
+
+-- ---- simplequery.rs
+
+unfoldable pub query : List ℕ → Given K.query
+unfolding K.query
+query s = some (s, tt)
+
+-- ---- terminate.rs
+
+unfoldable pub terminate : Given K.terminate
+unfolding K.terminate
+terminate = some tt
+
 -- ---- cancel.rs
 
 unfoldable pub cancelRequest : ℤ → ℤ → Given K.cancelRequest
