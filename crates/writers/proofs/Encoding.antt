@@ -191,18 +191,22 @@ module _ (m : Mode) (k : Kind) (c : Contents k) {n room : ℕ} (able : allAble (
   unfolding encodedBy
   enough h = record { answer = rw (able, small, size, le-ltb room n h) refl }
 
--- ---- the answer to a frame with a type byte, in plain numbers
+-- ---- the answer to a frame in an envelope, in plain numbers
 
--- what is to be known of a kind's arguments: its limit, whether they can be written, and how many bytes their body has
-pub record Measured (m : Mode) (k : Kind) (given : Option (Contents k)) (most : ℕ) (can : Bool) (n : ℕ) : Type 0 where
-  pub envelope : m .envelope ≡ typed
+-- what is to be known of a kind's arguments: their envelope, the kind's limit, whether they can be written, and how many bytes their body has
+pub record MeasuredIn (e : Envelope) (m : Mode) (k : Kind) (given : Option (Contents k)) (most : ℕ) (can : Bool) (n : ℕ) : Type 0 where
+  pub envelope : m .envelope ≡ e
   pub limit : k .limit ≡ most
   pub able : ableOf m k given ≡ can
   pub size : (c : Contents k) → given ≡ some c → length (bodyBytes k c) ≡ n
 
-pub measured : (m : Mode) (k : Kind) (c : Contents k) {limit : ℕ} {able : Bool} {size : ℕ}
-    → m .envelope ≡ typed → k .limit ≡ limit → allAble (rulesOf (m .mode)) k c ≡ able → length (bodyBytes k c) ≡ size
-    → Measured m k (some c) limit able size
+-- of a frame with a type byte
+abbrev pub Measured : (m : Mode) (k : Kind) → Option (Contents k) → ℕ → Bool → ℕ → Type 0
+Measured m k given most can n = MeasuredIn typed m k given most can n
+
+pub measured : {e : Envelope} (m : Mode) (k : Kind) (c : Contents k) {limit : ℕ} {able : Bool} {size : ℕ}
+    → m .envelope ≡ e → k .limit ≡ limit → allAble (rulesOf (m .mode)) k c ≡ able → length (bodyBytes k c) ≡ size
+    → MeasuredIn e m k (some c) limit able size
 unfolding ableOf
 measured m k c e l a s = record {
   envelope = e;
@@ -211,24 +215,24 @@ measured m k c e l a s = record {
   size = λ x is. ap (λ (y : Contents k). length (bodyBytes k y)) (sym (only is)) ∙ s;
 }
 
-typed-is : (e : Envelope) (n : ℕ) → e ≡ typed → (lengthOf e n ≡ 4 + n) × (uncounted e ≡ 1)
-typed-is e n is = rw is (refl, refl)
+length-in : {e e′ : Envelope} (n : ℕ) → e ≡ e′ → lengthOf e n + uncounted e ≡ bodyStart e′ + n
+length-in {e′ = e′} n is = rw is (sym (start-of e′ n))
 
-module _ {m : Mode} {k : Kind} {given : Option (Contents k)} {limit : ℕ} {able : Bool} {size : ℕ} (x : Measured m k given limit able size) where
+module _ {e : Envelope} {m : Mode} {k : Kind} {given : Option (Contents k)} {limit : ℕ} {able : Bool} {size : ℕ} (x : MeasuredIn e m k given limit able size) where
   pub judged : {able′ : Bool} {size′ room : ℕ} {r : Encoded} → limit < largest → able′ ≡ able
-      → (able ≡ true → size′ ≡ min (4 + size) largest) → r ≡ verdictOf able′ limit size′ 1 room → Judged m k given room r
+      → (able ≡ true → size′ ≡ min (lengthOf e size) largest) → r ≡ verdictOf able′ limit size′ (uncounted e) room → Judged m k given room r
   judged {able′} {size′} {room} {r} low same sized v =
       judged-given m k (omega (arith, low, x .limit)) given {size = size′} (same ∙ sym (x .able))
       (λ c is t. rw (x .envelope, x .size c is) (sized (sym same ∙ t)))
       (rw (x .limit, x .envelope) v)
 
-  pub roomOf : {room n : ℕ} {r : Encoded} → Judged m k given room r → r ≡ N.Done n → Room able (limit + 1) (5 + size) room n
+  pub roomOf : {room n : ℕ} {r : Encoded} → Judged m k given room r → r ≡ N.Done n → Room able (limit + uncounted e) (bodyStart e + size) room n
   roomOf {room} {n} v is =
       let h = writtenOf m k given v is in
-      let t = typed-is (m .envelope) (length (bodyBytes k (h .it))) (x .envelope) in
-      let w : n ≡ 5 + size = omega (arith, h .whole, t .0, t .1, x .size (h .it) (h .is)) in
-      record { able = sym (x .able) ∙ h .able; whole = w; small = omega (arith, w, h .small, t .0, x .limit, x .size (h .it) (h .is)); fits = h .fits }
+      let s = length-in (length (bodyBytes k (h .it))) (x .envelope) in
+      let u : uncounted (m .envelope) ≡ uncounted e = ap uncounted (x .envelope) in
+      record { able = sym (x .able) ∙ h .able; whole = omega (arith, h .whole, s, x .size (h .it) (h .is)); small = omega (arith, h .whole, h .small, u, x .limit); fits = h .fits }
 
   pub finished : {out left : List ℕ} {n : ℕ} {r : Encoded}
-      → Judged m k given (length out) r → r ≡ N.Done n → WroteFrame typed k given out left → Encodes m k given out (N.Done n) left
+      → Judged m k given (length out) r → r ≡ N.Done n → WroteFrame e k given out left → Encodes m k given out (N.Done n) left
   finished v is w = done v is (rw (x .envelope) w)
