@@ -9,7 +9,7 @@ use Rattle.protocol.specs.declared.response.GssEncResponse.the-variants as Gss
 use Rattle.protocol.specs.declared.response.GssEncResponse.{GssEncResponse}
 use Rattle.protocol.specs.declared.response.SslResponse.the-variants as Ssl
 use Rattle.protocol.specs.declared.response.SslResponse.{SslResponse}
-use Rattle.protocol.specs.Encode.{items, valuesGiven, errorFieldsGiven, rowFieldsGiven, sslKind, gssKind}
+use Rattle.protocol.specs.Encode.{items, valuesGiven, errorFieldsGiven, pairsGiven, rowFieldsGiven, sslKind, gssKind}
 use Rattle.protocol.specs.Fields.{Field}
 use Rattle.protocol.specs.Kinds as K
 use Rattle.protocol.specs.Kinds.{Kind}
@@ -196,6 +196,10 @@ gssEncResponse Gss.Accept = some tt
 gssEncResponse Gss.Refuse = some tt
 
 -- ---- startup.rs
+
+unfoldable pub startup : List ℕ → List ℕ → Given K.startup
+unfolding K.startup
+startup lengths joined = Option·map (λ ps. (ps, tt)) (pairsGiven lengths joined)
 
 -- a request that is a length and a code alone
 abbrev pub requested : ℕ → Kind
