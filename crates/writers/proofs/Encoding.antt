@@ -10,6 +10,7 @@ use lib.Dec.{leb, ltb}
 use lib.ListN.{length, drop, length-append}
 use Rattle.protocol.specs.declared.Encoded.the-variants as N
 use Rattle.protocol.specs.declared.Encoded.{Encoded}
+use Rattle.protocol.specs.Bytes.{be}
 use Rattle.protocol.specs.Encode.{encodedBy, writtenBy, Encodes}
 use Rattle.protocol.specs.Kinds.{Envelope, typed, untyped, bare, Kind, Mode, largeFrame}
 use Rattle.protocol.specs.Refusals.{lengthAboveLimit, outputTooShort, notRepresentable}
@@ -18,7 +19,7 @@ use Rattle.protocol.specs.WellFormed.{Contents, bodyBytes, lengthOf, header, bo
 use Rattle.protocol.proofs.Basics.{refused-done, first-chosen, second-chosen, length-header}
 use Rattle.writers.specs.Writing.{write, Wrote, Put, WroteFrame, largest, verdictOf}
 use Rattle.writers.proofs.Laws.{_then_, front}
-use Rattle.writers.proofs.Puts.{Fits, same-size, headed}
+use Rattle.writers.proofs.Puts.{Fits, same-size, headed, _and_}
 
 -- ---- lengths
 
@@ -45,14 +46,14 @@ only : {A : Type 0} {x y : A} → some x ≡ some y → x ≡ y
 only e = cc
 
 -- the head, for a frame of n bytes, and then the body
-pub framed : {d mid left : List ℕ} {n at next size : ℕ} (k : Kind) (c : Contents k)
-    → Wrote d 0 (header typed (k .tag) (n - 5)) 5 mid at → Wrote mid at (bodyBytes k c) size left next → n ≡ 5 + size
-    → WroteFrame typed k (some c) d left
+pub framed : {d mid left : List ℕ} {e : Envelope} {n at next size : ℕ} (k : Kind) (c : Contents k)
+    → Wrote d 0 (header e (k .tag) (n - bodyStart e)) (bodyStart e) mid at → Wrote mid at (bodyBytes k c) size left next → n ≡ bodyStart e + size
+    → WroteFrame e k (some c) d left
 unfolding frame
-framed {d} {mid} {left} {n} k c h b e =
-    let f : length (bodyBytes k c) ≡ n - 5 = omega (arith, b .size) in
-    let w : left ≡ write d 0 (frame typed k c) = rw f ((h then b) .bytes) in
-    record { bytes = λ x is. w ∙ ap (λ (y : Contents k). write d 0 (frame typed k y)) (only is) }
+framed {d} {mid} {left} {e} {n} k c h b is-n =
+    let f : length (bodyBytes k c) ≡ n - bodyStart e = omega (arith, b .size, is-n) in
+    let w : left ≡ write d 0 (frame e k c) = rw f ((h then b) .bytes) in
+    record { bytes = λ x is. w ∙ ap (λ (y : Contents k). write d 0 (frame e k y)) (only is) }
 
 -- the head and then the body, by writers that look for their room
 pub framed-put : {d mid left : List ℕ} {n at next size : ℕ} (k : Kind) (c : Contents k)
@@ -61,6 +62,16 @@ pub framed-put : {d mid left : List ℕ} {n at next size : ℕ} (k : Kind) (c : 
 framed-put k c head body e room small =
     let h = headed head (omega arith) room small in
     framed k c h (body (omega (arith, h .place, same-size h))) e
+
+-- the same without a type byte: the length and the code are the head
+pub framed-untyped : {d mid mid′ left : List ℕ} {n at at′ next size : ℕ} (k : Kind) (c : Contents k)
+    → Put true d 0 (be 4 n) 4 mid at → Put true mid at (be 4 (k .tag)) 4 mid′ at′ → Fits mid′ at′ (bodyBytes k c) size left next → n ≡ 8 + size
+    → n ≤ length d → WroteFrame untyped k (some c) d left
+unfolding header
+framed-untyped {n = n} k c word code body e room =
+    let h = (word .fits refl and code .fits refl) (omega arith) in
+    let f : 8 + (n - 8) ≡ n = omega arith in
+    framed k c (rw f h) (body (omega (arith, h .place, same-size h))) e
 
 -- in any envelope, head and body at once
 pub framed-whole : {d left : List ℕ} {e : Envelope} {n next : ℕ} (k : Kind) (c : Contents k) → Wrote d 0 (frame e k c) n left next → WroteFrame e k (some c) d left

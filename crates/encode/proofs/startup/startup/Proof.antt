@@ -1,76 +1,61 @@
+-- `encode::startup::startup` meets its contract.
+use mathlib.Core.Bool.{_&&_}
+use native.Mathlib.Omega.{arith}
 use borrow.Author.Needs.{needs}
+use denote.Ref.{now}
+use lib.ListN.{length}
+use Rattle.protocol.specs.Bytes.{noZero}
+use Rattle.protocol.specs.Encode.{textsGiven}
+use Rattle.protocol.specs.Kinds as K
+use Rattle.writers.specs.Given.{isSome, named}
+use Rattle.writers.proofs.Encoding.{Judged, judged, roomOf, refused, finished}
+use Rattle.protocol.proofs.Basics.{and-left}
+use Rattle.encode.specs.Given as G
+use Rattle.encode.proofs.Measures as M
 use Rattle.encode.proofs.startup.startup.Statement.{statement}
 use Rattle.encode.proofs.startup.startup.Tie as tie
-use Rattle.encode.proofs.startup.startup.Reads as reads
-use Rattle.encode.proofs.startup.startup.Lts as lts
-use Rattle.encode.proofs.startup.write_startup.Reads as write-startup-reads
-use Rattle.writers.proofs.no_zero.Reads as no-zero-reads
-use Rattle.writers.proofs.plus.Reads as plus-reads
-use Rattle.writers.proofs.texts.named.Reads as named-reads
-use Rattle.writers.proofs.texts.texts_given.Reads as texts-given-reads
-use Rattle.writers.proofs.verdict_untyped.Reads as verdict-untyped-reads
 
--- src/startup.rt:66:16
-texts-given-requires : tie.Need-texts-given-requires
-texts-given-requires c κs = search needs
+abbrev start : tie.After-verdict-untyped → tie.Start
+start c = c .before .before .before .before .before .before .before .before
 
--- src/startup.rt:66:48
-no-zero-requires : tie.Need-no-zero-requires
-no-zero-requires c κs = search needs
+says : (c : tie.After-verdict-untyped) → let a = start c .args in
+    Judged K.firstPacket K.startup (G.startup (now (a .lengths)) (now (a .joined))) (length (now (a .out))) (c .verdict-untyped .result)
+says c = judged (M.startup _ _) (omega arith) (cc) (λ _. omega (arith, c .before)) (c .verdict-untyped .ensures)
 
--- src/startup.rt:66:66
-named-requires : tie.Need-named-requires
-named-requires c κs = search needs
-
--- src/startup.rt:67:35
-add-plus : tie.Need-add-plus
-add-plus c = search needs
-
--- src/startup.rt:67:9
-plus-requires : tie.Need-plus-requires
-plus-requires c κs = search needs
-
--- src/startup.rt:68:9
-verdict-untyped-requires : tie.Need-verdict-untyped-requires
-verdict-untyped-requires c κs = search needs
-
--- src/startup.rt:69:23
-enum-known-r : tie.Need-enum-known-r
-enum-known-r c = search needs
-
--- src/startup.rt:70:9
-enum-told : tie.Need-enum-told
-enum-told c = search needs
-
--- src/startup.rt:70:9
 returns : tie.Need-returns
-returns c = ?
+returns c = refused (says (c .before .before)) (c .enum-told .given .1)
 
--- src/startup.rt:72:5
 write-startup-requires : tie.Need-write-startup-requires
-write-startup-requires c κs = ?
+write-startup-requires c κs =
+    let v = c .before .before .before .before in
+    let a = start v .args in
+    let h = roomOf (M.startup (now (a .lengths)) (now (a .joined))) (says v) (c .before .before .r .given .1) in (
+      omega (arith, h .whole),
+      h .fits,
+      h .small,
+      and-left (isSome (textsGiven (now (a .lengths)) (now (a .joined)))) (noZero (now (a .joined)) && named (now (a .lengths))) (h .able),
+    )
 
--- src/startup.rt:63:1
-same-length : tie.Need-same-length
-same-length c = search needs
-
--- src/startup.rt:63:1
 returns-2 : tie.Need-returns-2
-returns-2 c = ?
+returns-2 c =
+    let w = c .before .before in
+    let v = w .before .before .before .before .before in
+    let a = start v .args in
+    finished (M.startup (now (a .lengths)) (now (a .joined))) (says v) (w .before .before .before .r .given .1) (w .write-startup .ensures)
 
 pub startup-spec : {M : Type 1} → statement M
 startup-spec =
     tie.close
     (tie.spec
-    texts-given-requires
-    no-zero-requires
-    named-requires
-    add-plus
-    plus-requires
-    verdict-untyped-requires
-    enum-known-r
-    enum-told
+    (λ c κs. search needs)
+    (λ c κs. search needs)
+    (λ c κs. search needs)
+    (λ c. search needs)
+    (λ c κs. search needs)
+    (λ c κs. search needs)
+    (λ c. search needs)
+    (λ c. search needs)
     returns
     write-startup-requires
-    same-length
+    (λ c. search needs)
     returns-2)

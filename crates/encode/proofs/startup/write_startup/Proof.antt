@@ -1,42 +1,31 @@
+-- `encode::startup::write_startup` meets its contract.
+use native.Mathlib.Omega.{arith}
 use borrow.Author.Needs.{needs}
+use denote.Ref.{now}
+use Rattle.protocol.specs.Each.{bytesOfEach}
+use Rattle.protocol.specs.Encode.{pairsGiven}
+use Rattle.protocol.specs.Kinds as K
+use Rattle.protocol.specs.WellFormed.{bodyBytes}
+use Rattle.writers.proofs.Encoding.{framed-untyped}
+use Rattle.writers.proofs.GivenLaws.{framed-given}
+use Rattle.writers.proofs.Puts.{_and_, none}
+use Rattle.encode.specs.Given as G
 use Rattle.encode.proofs.startup.write_startup.Statement.{statement}
 use Rattle.encode.proofs.startup.write_startup.Tie as tie
-use Rattle.encode.proofs.startup.write_startup.Reads as reads
-use Rattle.encode.proofs.startup.write_startup.Lts as lts
-use Rattle.encode.proofs.startup.put_parameters.Reads as put-parameters-reads
-use Rattle.writers.proofs.put_word.Reads as put-word-reads
 
--- src/startup.rt:57:31
-cast-put-word : tie.Need-cast-put-word
-cast-put-word c = search needs
-
--- src/startup.rt:57:9
-put-word-requires : tie.Need-put-word-requires
-put-word-requires c κs = search needs
-
--- src/startup.rt:58:9
-put-word-requires-2 : tie.Need-put-word-requires-2
-put-word-requires-2 c κs = search needs
-
--- src/startup.rt:59:5
-put-parameters-requires : tie.Need-put-parameters-requires
-put-parameters-requires c κs = search needs
-
--- src/startup.rt:53:1
-same-length : tie.Need-same-length
-same-length c = search needs
-
--- src/startup.rt:53:1
 returns : tie.Need-returns
-returns c = ?
+unfolding K.startup G.startup bodyBytes bytesOfEach
+returns c =
+    let c3 = c .before .before in
+    let c2 = c3 .before .before .before .before in
+    let c1 = c2 .before .before .before .before in
+    let s = c1 .before .before .before .before .before in
+    framed-given K.startup (λ ps. (ps, tt)) (pairsGiven (now (s .args .lengths)) (now (s .args .joined)))
+    (λ ps is.
+    framed-untyped K.startup (ps, tt) (c1 .put-word .ensures) (c2 .put-word2 .ensures) ((λ _. c3 .put-parameters .ensures .field ps is) and none)
+    (omega (arith, s .pre)) (s .pre .1))
 
 pub write-startup-spec : {M : Type 1} → statement M
 write-startup-spec =
     tie.close
-    (tie.spec
-    cast-put-word
-    put-word-requires
-    put-word-requires-2
-    put-parameters-requires
-    same-length
-    returns)
+    (tie.spec (λ c. search needs) (λ c κs. search needs) (λ c κs. search needs) (λ c κs. search needs) (λ c. search needs) returns)
