@@ -1,3 +1,4 @@
+pub mod Ended
 pub mod Measures
 pub mod Shapes
 pub mod TwoPasses

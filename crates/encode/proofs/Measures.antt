@@ -10,15 +10,16 @@ use lib.IntN.{ℤ}
 use lib.ListN.{length, getD, length-append}
 use Rattle.protocol.specs.Bytes.{noZero, isOneOf}
 use Rattle.protocol.specs.Each.{ableEach, bytesOfEach}
-use Rattle.protocol.specs.Encode.{items, valuesGiven, errorFieldsGiven}
+use Rattle.protocol.specs.Encode.{items, valuesGiven, errorFieldsGiven, pairsGiven, textsGiven}
 use Rattle.protocol.specs.Fields.{most, signedCount}
 use Rattle.protocol.specs.Kinds as K
 use Rattle.protocol.specs.WellFormed.{bodyBytes}
-use Rattle.writers.specs.Given.{isSome}
-use Rattle.writers.proofs.Encoding.{Measured, measured}
+use Rattle.writers.specs.Given.{isSome, named}
+use Rattle.writers.proofs.Encoding.{Measured, MeasuredIn, measured}
 use Rattle.writers.proofs.ErrorLaws.{able-errors, length-errors}
 use Rattle.writers.proofs.GivenLaws.{measured-given}
 use Rattle.writers.proofs.Lists.{able-text, able-signed, able-byte, able-oids, length-text, length-signed, length-byte, length-oids, able-rest, able-formats, length-rest, length-formats}
+use Rattle.writers.proofs.TextLaws.{some-pairs, able-pairs, length-pairs}
 use Rattle.writers.proofs.ValueLaws.{able-values, length-values}
 use Rattle.encode.specs.Given as G
 
@@ -82,6 +83,21 @@ notificationResponse pid channel payload =
     (simp (able-signed, able-text, and-true) refl)
     (simp (length-append, length-signed, length-text) (omega arith))
 
+pub parameterStatus : (name value : List ℕ)
+    → Measured K.backend K.parameterStatus (G.parameterStatus name value) K.small (noZero name && noZero value) (length name + length value + 2)
+unfolding K.backend K.parameterStatus G.parameterStatus ableEach bodyBytes bytesOfEach
+parameterStatus name value =
+    measured K.backend K.parameterStatus (name, (value, tt)) refl refl
+    (simp (able-text, and-true) refl)
+    (simp (length-append, length-text) (omega arith))
+
+pub backendKeyData : (pid key : ℤ) → Measured K.backend K.backendKeyData (G.backendKeyData pid key) K.small true 8
+unfolding K.backend K.backendKeyData G.backendKeyData ableEach bodyBytes bytesOfEach
+backendKeyData pid key =
+    measured K.backend K.backendKeyData (pid, (key, tt)) refl refl
+    (simp (able-signed, and-true) refl)
+    (simp (length-append, length-signed) (omega arith))
+
 pub fieldless : (tag : ℕ) → Measured K.frontend (G.fieldless tag) (some tt) K.small true 0
 unfolding K.frontend ableEach bodyBytes bytesOfEach
 fieldless tag = measured K.frontend (G.fieldless tag) tt refl refl refl refl
@@ -121,3 +137,12 @@ reported tag codes lengths joined small =
     measured-given (G.reported tag) (λ fs. (fs, tt)) K.backend (errorFieldsGiven codes lengths joined) refl refl
     (λ fs is. rw (able-errors codes lengths joined fs small is _) (and-true (noZero joined && noZero codes)))
     (λ fs is. simp length-append (omega (arith, length-errors codes lengths joined fs small is)))
+
+pub startup : (lengths joined : List ℕ)
+    → MeasuredIn K.untyped K.firstPacket K.startup (G.startup lengths joined) K.small (isSome (textsGiven lengths joined) && (noZero joined && named lengths)) (length lengths + length joined + 1)
+unfolding K.firstPacket K.startup G.startup ableEach bodyBytes bytesOfEach
+startup lengths joined =
+    rw (some-pairs lengths joined (noZero joined))
+    (measured-given K.startup (λ ps. (ps, tt)) K.firstPacket (pairsGiven lengths joined) refl refl
+    (λ ps is. rw (able-pairs lengths joined ps is _) (and-true (noZero joined && named lengths)))
+    (λ ps is. simp length-append (omega (arith, length-pairs lengths joined ps is))))

@@ -9,7 +9,7 @@ use Rattle.protocol.specs.declared.response.GssEncResponse.the-variants as Gss
 use Rattle.protocol.specs.declared.response.GssEncResponse.{GssEncResponse}
 use Rattle.protocol.specs.declared.response.SslResponse.the-variants as Ssl
 use Rattle.protocol.specs.declared.response.SslResponse.{SslResponse}
-use Rattle.protocol.specs.Encode.{items, valuesGiven, errorFieldsGiven, rowFieldsGiven, sslKind, gssKind}
+use Rattle.protocol.specs.Encode.{items, valuesGiven, errorFieldsGiven, pairsGiven, rowFieldsGiven, sslKind, gssKind}
 use Rattle.protocol.specs.Fields.{Field}
 use Rattle.protocol.specs.Kinds as K
 use Rattle.protocol.specs.Kinds.{Kind}
@@ -194,6 +194,44 @@ unfoldable pub gssEncResponse : (r : GssEncResponse) → Given (gssKind r)
 unfolding K.gssAccept K.gssRefuse
 gssEncResponse Gss.Accept = some tt
 gssEncResponse Gss.Refuse = some tt
+
+-- ---- startup.rs
+
+unfoldable pub startup : List ℕ → List ℕ → Given K.startup
+unfolding K.startup
+startup lengths joined = Option·map (λ ps. (ps, tt)) (pairsGiven lengths joined)
+
+-- a request that is a length and a code alone
+abbrev pub requested : ℕ → Kind
+requested = shaped 8 []
+
+unfoldable pub sslRequest : Given K.sslRequest
+unfolding K.sslRequest
+sslRequest = some tt
+
+unfoldable pub gssEncRequest : Given K.gssEncRequest
+unfolding K.gssEncRequest
+gssEncRequest = some tt
+
+unfoldable pub parameterStatus : List ℕ → List ℕ → Given K.parameterStatus
+unfolding K.parameterStatus
+parameterStatus name value = some (name, (value, tt))
+
+unfoldable pub backendKeyData : ℤ → ℤ → Given K.backendKeyData
+unfolding K.backendKeyData
+backendKeyData pid key = some (pid, (key, tt))
+
+-- ---- simplequery.rs
+
+unfoldable pub query : List ℕ → Given K.query
+unfolding K.query
+query s = some (s, tt)
+
+-- ---- terminate.rs
+
+unfoldable pub terminate : Given K.terminate
+unfolding K.terminate
+terminate = some tt
 
 -- ---- cancel.rs
 

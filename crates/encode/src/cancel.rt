@@ -25,9 +25,10 @@ fn write_cancel_request(pid: u32, key: u32, out: &mut [u8])
     put_word(out, at, key);
 }
 
-// Sixteen bytes, always within the limit: only the room can be lacking.
+// Sixteen bytes, always within the limit: only the room can be lacking. A kind of both modes of first packets.
 pub fn cancel_request(pid: i32, secret_key: i32, out: &mut [u8]) -> Encoded
     ensures { λ r. ⌜ Encodes K.cancel K.cancelRequest (G.cancelRequest pid «secret_key») (now (out .entry)) r (now (out .exit)) ⌝ }
+    ensures { λ r. ⌜ Encodes K.firstPacket K.cancelRequest (G.cancelRequest pid «secret_key») (now (out .entry)) r (now (out .exit)) ⌝ }
 {
     let bits = bits32(pid);
     let key = bits32(secret_key);

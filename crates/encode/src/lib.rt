@@ -4,6 +4,9 @@ pub mod copy;
 pub mod data;
 pub mod extendedquery;
 pub mod response;
+pub mod simplequery;
+pub mod startup;
+pub mod terminate;
 
 ghost use Prim.Native.Nat.{_+_, _*_, _≤_};
 ghost use mathlib.Core.Bool.{true};

@@ -61,7 +61,7 @@ sslRows = answerRow K.tlsAnswer K.sslAccept (G.sslResponse Ssl.Accept) ∷ answe
 abbrev pub gssRows : List Row
 gssRows = answerRow K.gssAnswer K.gssAccept (G.gssEncResponse Gss.Accept) ∷ answerRow K.gssAnswer K.gssRefuse (G.gssEncResponse Gss.Refuse) ∷ []
 
--- kinds with fields. CopyData and CopyDone are the same bytes in either direction
+-- kinds with fields. CopyData and CopyDone are the same bytes in either direction, and a cancel request in either mode
 abbrev pub fieldRows : ℕ → ℤ → ℤ → List ℕ → List ℕ → List Row
 fieldRows byte first second one two =
     row K.frontend K.close (G.close byte one)
@@ -74,7 +74,10 @@ fieldRows byte first second one two =
     ∷ row K.backend K.notificationResponse (G.notificationResponse first one two)
     ∷ row K.cancel K.cancelRequest (G.cancelRequest first second)
     ∷ record { number = kindNumber K.sslAccept; asks = askedIn sslRows byte }
-    ∷ record { number = kindNumber K.gssAccept; asks = askedIn gssRows byte } ∷ []
+    ∷ record { number = kindNumber K.gssAccept; asks = askedIn gssRows byte }
+    ∷ row K.frontend K.query (G.query one)
+    ∷ row K.backend K.parameterStatus (G.parameterStatus one two)
+    ∷ row K.backend K.backendKeyData (G.backendKeyData first second) ∷ []
 
 abbrev pub bareRows : List Row
 bareRows =
@@ -86,7 +89,10 @@ bareRows =
     ∷ row K.backend K.closeComplete G.closeComplete
     ∷ row K.backend K.portalSuspended G.portalSuspended
     ∷ row K.backend K.noData G.noData
-    ∷ row K.backend K.emptyQueryResponse G.emptyQueryResponse ∷ []
+    ∷ row K.backend K.emptyQueryResponse G.emptyQueryResponse
+    ∷ row K.firstPacket K.sslRequest G.sslRequest
+    ∷ row K.firstPacket K.gssEncRequest G.gssEncRequest
+    ∷ row K.frontend K.terminate G.terminate ∷ []
 
 abbrev pub asked : ℕ → ℕ → ℤ → ℤ → List ℕ → List ℕ → Option Asked
 asked kind byte first second one two = askedIn (fieldRows byte first second one two ++ bareRows) kind
@@ -103,7 +109,8 @@ listRows format one two joined words lengths formats results =
     ∷ row K.backend K.noticeResponse (G.noticeResponse one words joined)
     ∷ row K.backend K.copyInResponse (G.copyInResponse format formats)
     ∷ row K.backend K.copyOutResponse (G.copyOutResponse format formats)
-    ∷ row K.backend K.copyBothResponse (G.copyBothResponse format formats) ∷ []
+    ∷ row K.backend K.copyBothResponse (G.copyBothResponse format formats)
+    ∷ row K.firstPacket K.startup (G.startup words joined) ∷ []
 
 abbrev pub askedLists : ℕ → ℤ → List ℕ → List ℕ → List ℕ → List ℕ → List ℤ → List ℤ → List ℤ → Option Asked
 askedLists kind format one two joined words lengths formats results = askedIn (listRows format one two joined words lengths formats results) kind

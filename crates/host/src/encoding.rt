@@ -7,6 +7,9 @@ use encode::copy;
 use encode::data;
 use encode::extendedquery;
 use encode::response;
+use encode::simplequery;
+use encode::startup;
+use encode::terminate;
 use protocol::Encoded;
 use protocol::data::FieldDescription;
 use protocol::refusal::TYPE_UNKNOWN;
@@ -56,6 +59,9 @@ fn bare(kind: usize, out: &mut [u8]) -> Encoded
         14 => extendedquery::portal_suspended(out),
         15 => data::no_data(out),
         16 => response::empty_query_response(out),
+        32 => startup::ssl_request(out),
+        33 => startup::gss_enc_request(out),
+        35 => terminate::terminate(out),
         _ => Encoded::Refused(TYPE_UNKNOWN, 0),
     }
 }
@@ -84,6 +90,9 @@ fn plain(
         28 => cancel::cancel_request(first, second, out),
         29 => ssl(byte, out),
         30 => gss(byte, out),
+        34 => simplequery::query(one, out),
+        36 => startup::parameter_status(one, two, out),
+        37 => startup::backend_key_data(first, second, out),
         _ => bare(kind, out),
     }
 }
@@ -129,6 +138,7 @@ fn listed(
         24 => copy::copy_in_response(format, formats, out),
         25 => copy::copy_out_response(format, formats, out),
         26 => copy::copy_both_response(format, formats, out),
+        31 => startup::startup(words, joined, out),
         _ => Encoded::Refused(TYPE_UNKNOWN, 0),
     }
 }

@@ -10,6 +10,7 @@ use lib.Dec.{leb, ltb}
 use lib.ListN.{length, drop, length-append}
 use Rattle.protocol.specs.declared.Encoded.the-variants as N
 use Rattle.protocol.specs.declared.Encoded.{Encoded}
+use Rattle.protocol.specs.Bytes.{be}
 use Rattle.protocol.specs.Encode.{encodedBy, writtenBy, Encodes}
 use Rattle.protocol.specs.Kinds.{Envelope, typed, untyped, bare, Kind, Mode, largeFrame}
 use Rattle.protocol.specs.Refusals.{lengthAboveLimit, outputTooShort, notRepresentable}
@@ -18,7 +19,7 @@ use Rattle.protocol.specs.WellFormed.{Contents, bodyBytes, lengthOf, header, bo
 use Rattle.protocol.proofs.Basics.{refused-done, first-chosen, second-chosen, length-header}
 use Rattle.writers.specs.Writing.{write, Wrote, Put, WroteFrame, largest, verdictOf}
 use Rattle.writers.proofs.Laws.{_then_, front}
-use Rattle.writers.proofs.Puts.{Fits, same-size, headed}
+use Rattle.writers.proofs.Puts.{Fits, same-size, headed, _and_}
 
 -- ---- lengths
 
@@ -45,14 +46,14 @@ only : {A : Type 0} {x y : A} → some x ≡ some y → x ≡ y
 only e = cc
 
 -- the head, for a frame of n bytes, and then the body
-pub framed : {d mid left : List ℕ} {n at next size : ℕ} (k : Kind) (c : Contents k)
-    → Wrote d 0 (header typed (k .tag) (n - 5)) 5 mid at → Wrote mid at (bodyBytes k c) size left next → n ≡ 5 + size
-    → WroteFrame typed k (some c) d left
+pub framed : {d mid left : List ℕ} {e : Envelope} {n at next size : ℕ} (k : Kind) (c : Contents k)
+    → Wrote d 0 (header e (k .tag) (n - bodyStart e)) (bodyStart e) mid at → Wrote mid at (bodyBytes k c) size left next → n ≡ bodyStart e + size
+    → WroteFrame e k (some c) d left
 unfolding frame
-framed {d} {mid} {left} {n} k c h b e =
-    let f : length (bodyBytes k c) ≡ n - 5 = omega (arith, b .size) in
-    let w : left ≡ write d 0 (frame typed k c) = rw f ((h then b) .bytes) in
-    record { bytes = λ x is. w ∙ ap (λ (y : Contents k). write d 0 (frame typed k y)) (only is) }
+framed {d} {mid} {left} {e} {n} k c h b is-n =
+    let f : length (bodyBytes k c) ≡ n - bodyStart e = omega (arith, b .size, is-n) in
+    let w : left ≡ write d 0 (frame e k c) = rw f ((h then b) .bytes) in
+    record { bytes = λ x is. w ∙ ap (λ (y : Contents k). write d 0 (frame e k y)) (only is) }
 
 -- the head and then the body, by writers that look for their room
 pub framed-put : {d mid left : List ℕ} {n at next size : ℕ} (k : Kind) (c : Contents k)
@@ -61,6 +62,16 @@ pub framed-put : {d mid left : List ℕ} {n at next size : ℕ} (k : Kind) (c : 
 framed-put k c head body e room small =
     let h = headed head (omega arith) room small in
     framed k c h (body (omega (arith, h .place, same-size h))) e
+
+-- the same without a type byte: the length and the code are the head
+pub framed-untyped : {d mid mid′ left : List ℕ} {n at at′ next size : ℕ} (k : Kind) (c : Contents k)
+    → Put true d 0 (be 4 n) 4 mid at → Put true mid at (be 4 (k .tag)) 4 mid′ at′ → Fits mid′ at′ (bodyBytes k c) size left next → n ≡ 8 + size
+    → n ≤ length d → WroteFrame untyped k (some c) d left
+unfolding header
+framed-untyped {n = n} k c word code body e room =
+    let h = (word .fits refl and code .fits refl) (omega arith) in
+    let f : 8 + (n - 8) ≡ n = omega arith in
+    framed k c (rw f h) (body (omega (arith, h .place, same-size h))) e
 
 -- in any envelope, head and body at once
 pub framed-whole : {d left : List ℕ} {e : Envelope} {n next : ℕ} (k : Kind) (c : Contents k) → Wrote d 0 (frame e k c) n left next → WroteFrame e k (some c) d left
@@ -191,18 +202,22 @@ module _ (m : Mode) (k : Kind) (c : Contents k) {n room : ℕ} (able : allAble (
   unfolding encodedBy
   enough h = record { answer = rw (able, small, size, le-ltb room n h) refl }
 
--- ---- the answer to a frame with a type byte, in plain numbers
+-- ---- the answer to a frame in an envelope, in plain numbers
 
--- what is to be known of a kind's arguments: its limit, whether they can be written, and how many bytes their body has
-pub record Measured (m : Mode) (k : Kind) (given : Option (Contents k)) (most : ℕ) (can : Bool) (n : ℕ) : Type 0 where
-  pub envelope : m .envelope ≡ typed
+-- what is to be known of a kind's arguments: their envelope, the kind's limit, whether they can be written, and how many bytes their body has
+pub record MeasuredIn (e : Envelope) (m : Mode) (k : Kind) (given : Option (Contents k)) (most : ℕ) (can : Bool) (n : ℕ) : Type 0 where
+  pub envelope : m .envelope ≡ e
   pub limit : k .limit ≡ most
   pub able : ableOf m k given ≡ can
   pub size : (c : Contents k) → given ≡ some c → length (bodyBytes k c) ≡ n
 
-pub measured : (m : Mode) (k : Kind) (c : Contents k) {limit : ℕ} {able : Bool} {size : ℕ}
-    → m .envelope ≡ typed → k .limit ≡ limit → allAble (rulesOf (m .mode)) k c ≡ able → length (bodyBytes k c) ≡ size
-    → Measured m k (some c) limit able size
+-- of a frame with a type byte
+abbrev pub Measured : (m : Mode) (k : Kind) → Option (Contents k) → ℕ → Bool → ℕ → Type 0
+Measured m k given most can n = MeasuredIn typed m k given most can n
+
+pub measured : {e : Envelope} (m : Mode) (k : Kind) (c : Contents k) {limit : ℕ} {able : Bool} {size : ℕ}
+    → m .envelope ≡ e → k .limit ≡ limit → allAble (rulesOf (m .mode)) k c ≡ able → length (bodyBytes k c) ≡ size
+    → MeasuredIn e m k (some c) limit able size
 unfolding ableOf
 measured m k c e l a s = record {
   envelope = e;
@@ -211,24 +226,24 @@ measured m k c e l a s = record {
   size = λ x is. ap (λ (y : Contents k). length (bodyBytes k y)) (sym (only is)) ∙ s;
 }
 
-typed-is : (e : Envelope) (n : ℕ) → e ≡ typed → (lengthOf e n ≡ 4 + n) × (uncounted e ≡ 1)
-typed-is e n is = rw is (refl, refl)
+length-in : {e e′ : Envelope} (n : ℕ) → e ≡ e′ → lengthOf e n + uncounted e ≡ bodyStart e′ + n
+length-in {e′ = e′} n is = rw is (sym (start-of e′ n))
 
-module _ {m : Mode} {k : Kind} {given : Option (Contents k)} {limit : ℕ} {able : Bool} {size : ℕ} (x : Measured m k given limit able size) where
+module _ {e : Envelope} {m : Mode} {k : Kind} {given : Option (Contents k)} {limit : ℕ} {able : Bool} {size : ℕ} (x : MeasuredIn e m k given limit able size) where
   pub judged : {able′ : Bool} {size′ room : ℕ} {r : Encoded} → limit < largest → able′ ≡ able
-      → (able ≡ true → size′ ≡ min (4 + size) largest) → r ≡ verdictOf able′ limit size′ 1 room → Judged m k given room r
+      → (able ≡ true → size′ ≡ min (lengthOf e size) largest) → r ≡ verdictOf able′ limit size′ (uncounted e) room → Judged m k given room r
   judged {able′} {size′} {room} {r} low same sized v =
       judged-given m k (omega (arith, low, x .limit)) given {size = size′} (same ∙ sym (x .able))
       (λ c is t. rw (x .envelope, x .size c is) (sized (sym same ∙ t)))
       (rw (x .limit, x .envelope) v)
 
-  pub roomOf : {room n : ℕ} {r : Encoded} → Judged m k given room r → r ≡ N.Done n → Room able (limit + 1) (5 + size) room n
+  pub roomOf : {room n : ℕ} {r : Encoded} → Judged m k given room r → r ≡ N.Done n → Room able (limit + uncounted e) (bodyStart e + size) room n
   roomOf {room} {n} v is =
       let h = writtenOf m k given v is in
-      let t = typed-is (m .envelope) (length (bodyBytes k (h .it))) (x .envelope) in
-      let w : n ≡ 5 + size = omega (arith, h .whole, t .0, t .1, x .size (h .it) (h .is)) in
-      record { able = sym (x .able) ∙ h .able; whole = w; small = omega (arith, w, h .small, t .0, x .limit, x .size (h .it) (h .is)); fits = h .fits }
+      let s = length-in (length (bodyBytes k (h .it))) (x .envelope) in
+      let u : uncounted (m .envelope) ≡ uncounted e = ap uncounted (x .envelope) in
+      record { able = sym (x .able) ∙ h .able; whole = omega (arith, h .whole, s, x .size (h .it) (h .is)); small = omega (arith, h .whole, h .small, u, x .limit); fits = h .fits }
 
   pub finished : {out left : List ℕ} {n : ℕ} {r : Encoded}
-      → Judged m k given (length out) r → r ≡ N.Done n → WroteFrame typed k given out left → Encodes m k given out (N.Done n) left
+      → Judged m k given (length out) r → r ≡ N.Done n → WroteFrame e k given out left → Encodes m k given out (N.Done n) left
   finished v is w = done v is (rw (x .envelope) w)

@@ -12,13 +12,14 @@ use lib.Seq.{length-take-le, drop-drop}
 use Rattle.protocol.specs.declared.Rules.{Rules}
 use Rattle.protocol.specs.Bytes.{noZero, be}
 use Rattle.protocol.specs.Each.{ableEach, bytesOfEach}
-use Rattle.protocol.specs.Encode.{errorFieldsGiven}
+use Rattle.protocol.specs.Encode.{errorFieldsGiven, textsGiven}
 use Rattle.protocol.specs.Fields.{ItemContent, able, bytes, atomAble, atomBytes, itemAble, itemBytes, itemsAble, itemsBytes, zeroFirst, noneEnds}
 use Rattle.protocol.specs.Kinds.{errorField, errorFields}
 use Rattle.protocol.proofs.Basics.{none-some, and-left, and-right}
 use Rattle.writers.specs.Given.{isSome}
 use Rattle.writers.proofs.GivenLaws.{first, some-first}
 use Rattle.writers.proofs.Laws.{drop-more, drop-end}
+use Rattle.writers.proofs.TextLaws.{zero-parts}
 
 -- ---- when there are fields
 
@@ -41,30 +42,16 @@ errors-many cs ns bs e = by (eqb (length cs) (length ns)) refl
     by true q = eqb-true (length cs) (length ns) q
     by false q = absurd (true≢false (sym e ∙ errors-differ cs ns bs (eqb-false (length cs) (length ns) q)))
 
--- at the code and the length that the code reads; joined is passed up to j
-module _ (cs ns bs : List ℕ) (i j : ℕ) (h : i < length ns) (same : length cs ≡ length ns) where
-  pub error-next : isSome (errorFieldsGiven (drop i cs) (drop i ns) (drop j bs))
-      ≡ leb (getD ns i 0) (length bs - j) && isSome (errorFieldsGiven (drop (i + 1) cs) (drop (i + 1) ns) (drop (j + getD ns i 0) bs))
-  error-next =
-      rw (drop-more cs i 0 (omega arith), drop-more ns i 0 h, ← drop-drop (getD ns i 0) j bs, ← length-drop j bs)
-      (next (getD cs i 0) (getD ns i 0) (drop (i + 1) cs) (drop (i + 1) ns) (drop j bs))
-
-  pub error-right : isSome (errorFieldsGiven (drop i cs) (drop i ns) (drop j bs)) ≡ true
-      → (getD ns i 0 ≤ length bs - j) × (isSome (errorFieldsGiven (drop (i + 1) cs) (drop (i + 1) ns) (drop (j + getD ns i 0) bs)) ≡ true)
-  error-right is = let f = sym error-next ∙ is in (leb-true _ _ (and-left _ _ f), and-right (leb (getD ns i 0) (length bs - j)) f)
-
-pub error-end : (cs ns bs : List ℕ) (i j : ℕ) → length ns ≤ i → length cs ≡ length ns → j ≤ length bs
-    → isSome (errorFieldsGiven (drop i cs) (drop i ns) (drop j bs)) ≡ eqb j (length bs)
-unfolding errorFieldsGiven
-error-end cs ns bs i j h same k = rw (drop-end cs i (omega arith), drop-end ns i h) (by (drop j bs) refl)
-  where
-    by : (rest : List ℕ) → drop j bs ≡ rest → isSome (errorFieldsGiven [] [] rest) ≡ eqb j (length bs)
-    by [] e = sym (eq-eqb j (length bs) (omega (arith, ap length e, length-drop j bs)))
-    by (x ∷ xs) e = sym (ne-eqb j (length bs) (λ q. omega (arith, ap length e, length-drop j bs)))
-
-pub error-over : (cs ns bs : List ℕ) (i j : ℕ) → length ns ≤ i → length cs ≡ length ns → j ≤ length bs
-    → isSome (errorFieldsGiven (drop i cs) (drop i ns) (drop j bs)) ≡ true → j ≡ length bs
-error-over cs ns bs i j h same k is = eqb-true _ _ (sym (error-end cs ns bs i j h same k) ∙ is)
+-- where there are as many codes as lengths, the lengths tell
+pub errors-same : (cs ns bs : List ℕ) → length cs ≡ length ns → isSome (errorFieldsGiven cs ns bs) ≡ isSome (textsGiven ns bs)
+unfolding errorFieldsGiven textsGiven
+errors-same [] [] [] e = refl
+errors-same [] [] (b ∷ bs) e = refl
+errors-same [] (n ∷ ns) bs e = absurd (omega (arith, e))
+errors-same (c ∷ cs) [] bs e = absurd (omega (arith, e))
+errors-same (c ∷ cs) (n ∷ ns) bs e =
+    next c n cs ns bs ∙ ap (λ (t : Bool). leb n (length bs) && t) (errors-same cs ns (drop n bs) (omega (arith, e)))
+    ∙ sym (some-first (take n bs) (leb n (length bs)) (textsGiven ns (drop n bs)))
 
 -- ---- their bytes
 
@@ -85,15 +72,6 @@ errors-more cs ns bs i j h same =
 pub errors-none : (cs ns bs : List ℕ) (i : ℕ) → length ns ≤ i → length cs ≡ length ns → errorsBytes (drop i cs) (drop i ns) bs ≡ []
 unfolding errorsBytes
 errors-none cs ns bs i h same = rw (drop-end cs i (omega arith)) refl
-
-zero-append : (xs ys : List ℕ) → noZero (xs ++ ys) ≡ noZero xs && noZero ys
-unfolding noZero
-zero-append [] ys = refl
-zero-append (x ∷ xs) ys = by (not (eqb x 0)) (zero-append xs ys)
-  where
-    by : (t : Bool) → noZero (xs ++ ys) ≡ noZero xs && noZero ys → t && noZero (xs ++ ys) ≡ t && noZero xs && noZero ys
-    by true e = e
-    by false e = refl
 
 -- what the fields are that are given
 pub record Fields (cs ns bs : List ℕ) (fs : List (ItemContent errorField)) : Type 0 where
@@ -119,7 +97,7 @@ errors-are (c ∷ cs) (n ∷ ns) bs fs small e =
       written = rw (f .is, byte, append-nil (take n bs ++ 0 ∷ []), v .written) refl;
       size = simp (length-append, l) (omega (arith, v .size, length-drop n bs));
       codes = rw (f .is, byte, v .codes) refl;
-      strings = λ rules. rw (f .is, v .strings rules, and-true (noZero (take n bs))) (sym (zero-append (take n bs) (drop n bs)) ∙ ap noZero (take-append-drop n bs));
+      strings = λ rules. rw (f .is, v .strings rules, and-true (noZero (take n bs))) (sym (zero-parts n bs));
     }
 
 -- ---- the field

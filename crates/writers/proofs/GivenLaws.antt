@@ -6,13 +6,13 @@ use mathlib.Core.Option.{Option, some, none, Option·map}
 use mathlib.Core.Path.{_≡_, refl, sym}
 use lib.ListN.{length}
 use Rattle.protocol.specs.Encode.{oneBefore}
-use Rattle.protocol.specs.Kinds.{typed, Kind, Mode}
+use Rattle.protocol.specs.Kinds.{Envelope, Kind, Mode}
 use Rattle.protocol.specs.Rules.{rulesOf}
 use Rattle.protocol.specs.WellFormed.{Contents, bodyBytes, allAble}
 use Rattle.protocol.proofs.Basics.{none-some}
 use Rattle.writers.specs.Given.{isSome}
 use Rattle.writers.specs.Writing.{WroteFrame}
-use Rattle.writers.proofs.Encoding.{ableOf, Measured, measured}
+use Rattle.writers.proofs.Encoding.{ableOf, MeasuredIn, measured}
 
 -- ---- a first item, behind a test
 
@@ -34,21 +34,21 @@ some-first x false o = refl
 
 -- ---- the whole body
 
-module _ {A : Type 0} (k : Kind) (body : A → Contents k) where
+module _ {A : Type 0} {e : Envelope} (k : Kind) (body : A → Contents k) where
   pub framed-given : {d left : List ℕ} (given : Option A)
-      → ((x : A) → given ≡ some x → WroteFrame typed k (some (body x)) d left) → WroteFrame typed k (Option·map body given) d left
+      → ((x : A) → given ≡ some x → WroteFrame e k (some (body x)) d left) → WroteFrame e k (Option·map body given) d left
   framed-given none w = record { bytes = λ c is. absurd (none-some is) }
   framed-given (some x) w = w x refl
 
-  pub measured-given : (m : Mode) (given : Option A) {limit : ℕ} {able : Bool} {size : ℕ} → m .envelope ≡ typed → k .limit ≡ limit
+  pub measured-given : (m : Mode) (given : Option A) {limit : ℕ} {able : Bool} {size : ℕ} → m .envelope ≡ e → k .limit ≡ limit
       → ((x : A) → given ≡ some x → allAble (rulesOf (m .mode)) k (body x) ≡ able)
       → ((x : A) → given ≡ some x → length (bodyBytes k (body x)) ≡ size)
-      → Measured m k (Option·map body given) limit (isSome given && able) size
+      → MeasuredIn e m k (Option·map body given) limit (isSome given && able) size
   unfolding ableOf
-  measured-given m none e l a s = record {
-    envelope = e;
+  measured-given m none framed l a s = record {
+    envelope = framed;
     limit = l;
     able = refl;
     size = λ c is. absurd (none-some is);
   }
-  measured-given m (some x) e l a s = measured m k (body x) e l (a x refl) (s x refl)
+  measured-given m (some x) framed l a s = measured m k (body x) framed l (a x refl) (s x refl)

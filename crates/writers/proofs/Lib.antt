@@ -5,4 +5,5 @@ pub mod Laws
 pub mod Lists
 pub mod Puts
 pub mod Signs
+pub mod TextLaws
 pub mod ValueLaws

@@ -1,7 +1,9 @@
--- Arguments that may be no content: whether they are one, and how long a value is.
+-- Arguments that may be no content: whether they are one, how long a value is, and which lengths are names and values.
 use Prim.Native.Nat.{ℕ}
-use mathlib.Core.Bool.{Bool, true, false}
+use mathlib.Core.Bool.{Bool, true, false, not, _&&_}
+use mathlib.Core.List.{List, [], _∷_}
 use mathlib.Core.Option.{Option, some, none}
+use lib.Dec.{eqb}
 use lib.IntN.{ℤ, pos, negsuc}
 
 abbrev pub isSome : {A : Type 0} → Option A → Bool
@@ -12,3 +14,9 @@ isSome (some x) = true
 abbrev pub sizeOf : ℤ → ℕ
 sizeOf (pos n) = n
 sizeOf (negsuc n) = 0
+
+-- lengths that are a name's and a value's by turns: each name has a value, and none is empty
+unfoldable pub named : List ℕ → Bool
+named [] = true
+named (n ∷ []) = false
+named (n ∷ v ∷ ns) = not (eqb n 0) && named ns

@@ -2,6 +2,7 @@
 // the place that it was given. And what comes before any write: sizes that cannot wrap, the scan for zero bytes, and the answer.
 // Inner: for crates of this library alone (docs/INNER.md).
 pub mod errors;
+pub mod texts;
 pub mod values;
 
 ghost use Prim.Native.Nat.{_+_, _-_, _*_, _/_, _%_, _≤_, min};
@@ -283,20 +284,34 @@ pub fn plus4(a: usize, b: usize, c: usize, d: usize) -> usize
     plus(plus(a, b), plus(c, d))
 }
 
-// The answer to a frame whose length word is size, before anything of it is written.
-pub fn verdict(able: bool, limit: u32, size: usize, room: usize) -> Encoded
-    ensures { λ r. ⌜ r ≡ verdictOf able limit size 1 room ⌝ }
+// The answer to a frame whose length is size, before anything of it is written; it has `uncounted` bytes that its length does not count.
+fn judged(able: bool, limit: u32, size: usize, uncounted: u8, room: usize) -> Encoded
+    ensures { λ r. ⌜ r ≡ verdictOf able limit size uncounted room ⌝ }
 {
     if able {
         if (limit as usize) < size {
             return Encoded::Refused(LENGTH_ABOVE_LIMIT, 0);
         }
-        if size < room {
-            return Encoded::Done(size + 1);
+        let whole = size + uncounted as usize;
+        if whole <= room {
+            return Encoded::Done(whole);
         }
         return Encoded::Refused(OUTPUT_TOO_SHORT, 0);
     }
     Encoded::Refused(NOT_REPRESENTABLE, 0)
+}
+
+// The answer to a frame with a type byte, and to one without.
+pub fn verdict(able: bool, limit: u32, size: usize, room: usize) -> Encoded
+    ensures { λ r. ⌜ r ≡ verdictOf able limit size 1 room ⌝ }
+{
+    judged(able, limit, size, 1, room)
+}
+
+pub fn verdict_untyped(able: bool, limit: u32, size: usize, room: usize) -> Encoded
+    ensures { λ r. ⌜ r ≡ verdictOf able limit size 0 room ⌝ }
+{
+    judged(able, limit, size, 0, room)
 }
 
 // The type byte and the length word of a frame of n bytes, at the output's start.

@@ -1,40 +1,26 @@
 -- `encode::response::put_errors` meets its contract.
-use Prim.Native.Nat.{ℕ, _+_, _*_, _-_, _≤_, _<_}
+use Prim.Native.Nat.{_+_, _*_, _-_, _≤_}
 use mathlib.Core.Bool.{true}
-use mathlib.Core.List.{List, [], _∷_}
 use mathlib.Core.Path.{_≡_, refl, ap, _∙_, sym}
 use native.Mathlib.Omega.{arith}
 use borrow.Author.Needs.{needs}
 use lib.ListN.{length, getD, drop, length-take, length-drop}
-use Rattle.protocol.specs.Encode.{errorFieldsGiven}
-use Rattle.protocol.specs.Fields.{bytes}
-use Rattle.protocol.specs.Kinds.{errorField, errorFields}
+use Rattle.protocol.specs.Encode.{errorFieldsGiven, textsGiven}
+use Rattle.protocol.specs.Kinds.{errorField}
 use Rattle.writers.specs.Given.{isSome}
-use Rattle.writers.specs.Writing.{write, Wrote}
+use Rattle.writers.specs.Writing.{write}
 use Rattle.writers.proofs.Laws.{turn, _then_}
-use Rattle.writers.proofs.ErrorLaws.{errors-many, error-right, error-over, errorsBytes, errors-more, errors-none, errors-are}
-use Rattle.encode.specs.Writing.{WroteGiven}
+use Rattle.writers.proofs.ErrorLaws.{errors-many, errors-same, errorsBytes, errors-more, errors-none, errors-are}
+use Rattle.writers.proofs.TextLaws.{text-right, text-over}
+use Rattle.encode.proofs.Ended.{ended-field}
 use Rattle.encode.proofs.response.put_errors.Statement.{statement}
 use Rattle.encode.proofs.response.put_errors.Tie as tie
-
--- the fields, and then the zero byte
-errors-field : {d mid out : List ℕ} {p at next : ℕ} (cs ns bs : List ℕ) → ((i : ℕ) → getD cs i 0 < 256)
-    → mid ≡ write d p (errorsBytes cs ns bs) → at ≡ p + (2 * length cs + length bs) → Wrote mid at (0 ∷ []) 1 out next
-    → WroteGiven errorFields (errorFieldsGiven cs ns bs) d p (2 * length cs + length bs + 1) out next
-unfolding bytes
-errors-field {d} {mid} {out} {p} {at} cs ns bs small e is-at w = record {
-  field = λ fs is.
-      let v = errors-are cs ns bs fs small is in
-      let u : Wrote d p (errorsBytes cs ns bs) (2 * length cs + length bs) mid at = record { bytes = e; size = v .size; place = is-at } in
-      rw (v .written) (u then w);
-  place = omega (arith, w .place);
-}
 
 -- what is left to write
 abbrev Inv-loop : tie.InvT-loop
 Inv-loop out₀ at codes lengths joined p₀ i₀ j₀ out p i j =
     (length codes ≡ length lengths) × (i ≤ length lengths) × (j ≤ length joined) × (p ≡ at + 2 * i + j) × (length out ≡ length out₀)
-    × (isSome (errorFieldsGiven (drop i codes) (drop i lengths) (drop j joined)) ≡ true)
+    × (isSome (textsGiven (drop i lengths) (drop j joined)) ≡ true)
     × (write out p (errorsBytes (drop i codes) (drop i lengths) (drop j joined)) ≡ write out₀ at (errorsBytes codes lengths joined))
 
 abbrev μ-loop : tie.MeasureT-loop
@@ -44,18 +30,19 @@ loop-holds : tie.Need-loop-holds Inv-loop μ-loop
 loop-holds c =
     let s = c .before .before .before .before in
     let a = s .args in
-    (errors-many (a .codes .now) (a .lengths .now) (a .joined .now) (s .pre .1), omega arith, omega arith, omega arith, refl, s .pre .1, refl)
+    let many = errors-many (a .codes .now) (a .lengths .now) (a .joined .now) (s .pre .1) in
+    (many, omega arith, omega arith, omega arith, refl, sym (errors-same (a .codes .now) (a .lengths .now) (a .joined .now) many) ∙ s .pre .1, refl)
 
 -- the string at hand is within what is left
 right : (c : tie.In-loop Inv-loop μ-loop) → let q = c .before .loop in
     let a = c .before .before .before .before .before .before .args in
     let n = getD (a .lengths .now) (q .i) 0 in
     (n ≤ length (a .joined .now) - q .j)
-    × (isSome (errorFieldsGiven (drop (q .i + 1) (a .codes .now)) (drop (q .i + 1) (a .lengths .now)) (drop (q .j + n) (a .joined .now))) ≡ true)
+    × (isSome (textsGiven (drop (q .i + 1) (a .lengths .now)) (drop (q .j + n) (a .joined .now))) ≡ true)
 right c =
     let q = c .before .loop in
     let a = c .before .before .before .before .before .before .args in
-    error-right (a .codes .now) (a .lengths .now) (a .joined .now) (q .i) (q .j) (c .loop-test .taken) (q .inv .0) (q .inv .5)
+    text-right (a .lengths .now) (a .joined .now) (q .i) (q .j) (c .loop-test .taken) (q .inv .5)
 
 cast-e : tie.Need-cast-e Inv-loop μ-loop
 cast-e c = let f = c .shared-slice-known4 .given (c .before .before .loop .i) in record { fits = omega (arith, f .fits) }
@@ -98,8 +85,9 @@ returns c =
     let k = t .before .before .before .before in
     let a = k .before .before .args in
     let none = errors-none (a .codes .now) (a .lengths .now) (drop (q .j) (a .joined .now)) (q .i) (t .loop-test .left) (q .inv .0) in
-    let all = error-over (a .codes .now) (a .lengths .now) (a .joined .now) (q .i) (q .j) (t .loop-test .left) (q .inv .0) (q .inv .2) (q .inv .5) in
-    errors-field (a .codes .now) (a .lengths .now) (a .joined .now) (λ i. k .shared-slice-known .given i .fits)
+    let all = text-over (a .lengths .now) (a .joined .now) (q .i) (q .j) (t .loop-test .left) (q .inv .2) (q .inv .5) in
+    ended-field errorField (errorFieldsGiven (a .codes .now) (a .lengths .now) (a .joined .now))
+    (λ fs is. let v = errors-are (a .codes .now) (a .lengths .now) (a .joined .now) fs (λ i. k .shared-slice-known .given i .fits) is in (v .written, v .size))
     (rw none at (q .inv .6)) (omega (arith, all)) (w .put-byte2 .ensures .fits refl (omega (arith, all)))
 
 pub put-errors-spec : {M : Type 1} → statement M

@@ -44,13 +44,28 @@ unfolding the-table askedIn find
 returns-9 c = arm bareRows (c .before .before .before .before .match .keys9) (c .before .before .empty-query-response .ensures) refl
 
 returns-10 : tie.Need-returns-10
+unfolding the-table askedIn find
+returns-10 c = arm bareRows (c .before .before .before .before .match .keys10) (c .before .before .ssl-request .ensures) refl
+
+returns-11 : tie.Need-returns-11
+unfolding the-table askedIn find
+returns-11 c = arm bareRows (c .before .before .before .before .match .keys11) (c .before .before .gss-enc-request .ensures) refl
+
+returns-12 : tie.Need-returns-12
+unfolding the-table askedIn find
+returns-12 c = arm bareRows (c .before .before .before .before .match .keys12) (c .before .before .terminate .ensures) refl
+
+others : tie.Need-returns-13
 unfolding the-table
-returns-10 c = unknown bareRows _ (c .match .rest)
+others c = unknown bareRows _ (c .match .rest)
 
 pub bare-spec : {M : Type 1} → statement M
 bare-spec =
     tie.close
     (tie.spec
+    (λ c κs. search needs)
+    (λ c κs. search needs)
+    (λ c κs. search needs)
     (λ c κs. search needs)
     (λ c κs. search needs)
     (λ c κs. search needs)
@@ -78,4 +93,10 @@ bare-spec =
     returns-8
     (λ c. search needs)
     returns-9
-    returns-10)
+    (λ c. search needs)
+    returns-10
+    (λ c. search needs)
+    returns-11
+    (λ c. search needs)
+    returns-12
+    others)

@@ -56,7 +56,11 @@ returns-9 c =
     let s = c .before .before .before .before .before .before .before .before .before .before in
     arm (rows s) (c .before .before .before .before .match .keys9) (rw (toZ-ofZ w8 (s .args .format) (s .fits .format)) at (c .before .before .copy-both-response .ensures)) refl
 
-others : tie.Need-returns-10
+returns-10 : tie.Need-returns-10
+unfolding the-table askedIn find
+returns-10 c = arm (rows (c .before .before .before .before .before .before .before .before .before .before)) (c .before .before .before .before .match .keys10) (c .before .before .startup .ensures) refl
+
+others : tie.Need-returns-11
 unfolding the-table
 others c = unknown (rows (c .before .before .before .before .before .before)) _ (c .match .rest)
 
@@ -64,6 +68,7 @@ pub listed-spec : {M : Type 1} → statement M
 listed-spec =
     tie.close
     (tie.spec
+    (λ c κs. search needs)
     (λ c κs. search needs)
     (λ c κs. search needs)
     (λ c κs. search needs)
@@ -91,4 +96,6 @@ listed-spec =
     returns-8
     (λ c. search needs)
     returns-9
+    (λ c. search needs)
+    returns-10
     others)

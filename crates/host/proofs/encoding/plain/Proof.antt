@@ -58,7 +58,7 @@ returns-9 : tie.Need-returns-9
 unfolding the-table askedIn find
 returns-9 c =
     let s = c .before .before .before .before .before .before .before .before in
-    arm (rows s) (c .before .before .before .before .match .keys9) (rw (toZ-ofZ w32 (s .args .first) (s .fits .first), toZ-ofZ w32 (s .args .second) (s .fits .second)) at (c .before .before .cancel-request .ensures)) refl
+    arm (rows s) (c .before .before .before .before .match .keys9) (rw (toZ-ofZ w32 (s .args .first) (s .fits .first), toZ-ofZ w32 (s .args .second) (s .fits .second)) at (c .before .before .cancel-request .ensures .0)) refl
 
 returns-10 : tie.Need-returns-10
 unfolding the-table askedIn find
@@ -68,7 +68,21 @@ returns-11 : tie.Need-returns-11
 unfolding the-table askedIn find
 returns-11 c = chosen (rows (c .before .before .before .before .before .before .before .before)) (c .before .before .before .before .match .keys11) (c .before .before .gss .ensures) refl
 
-others : tie.Need-returns-12
+returns-12 : tie.Need-returns-12
+unfolding the-table askedIn find
+returns-12 c = arm (rows (c .before .before .before .before .before .before .before .before)) (c .before .before .before .before .match .keys12) (c .before .before .query .ensures) refl
+
+returns-13 : tie.Need-returns-13
+unfolding the-table askedIn find
+returns-13 c = arm (rows (c .before .before .before .before .before .before .before .before)) (c .before .before .before .before .match .keys13) (c .before .before .parameter-status .ensures) refl
+
+returns-14 : tie.Need-returns-14
+unfolding the-table askedIn find
+returns-14 c =
+    let s = c .before .before .before .before .before .before .before .before in
+    arm (rows s) (c .before .before .before .before .match .keys14) (rw (toZ-ofZ w32 (s .args .first) (s .fits .first), toZ-ofZ w32 (s .args .second) (s .fits .second)) at (c .before .before .backend-key-data .ensures)) refl
+
+others : tie.Need-returns-15
 unfolding the-table
 others c = rw (past (fielded (c .before .before .before .before .before .before .before .before)) bareRows _ (c .before .before .before .before .match .rest)) (c .before .before .bare .ensures)
 
@@ -76,6 +90,9 @@ pub plain-spec : {M : Type 1} → statement M
 plain-spec =
     tie.close
     (tie.spec
+    (λ c κs. search needs)
+    (λ c κs. search needs)
+    (λ c κs. search needs)
     (λ c κs. search needs)
     (λ c κs. search needs)
     (λ c κs. search needs)
@@ -110,5 +127,11 @@ plain-spec =
     returns-10
     (λ c. search needs)
     returns-11
+    (λ c. search needs)
+    returns-12
+    (λ c. search needs)
+    returns-13
+    (λ c. search needs)
+    returns-14
     (λ c. search needs)
     others)

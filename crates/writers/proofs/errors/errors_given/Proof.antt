@@ -1,70 +1,18 @@
 -- `writers::errors::errors_given` meets its contract.
-use Prim.Native.Nat.{_+_, _-_, _≤_}
-use mathlib.Core.Bool.{_&&_}
-use mathlib.Core.Path.{_≡_, refl, _∙_, sym}
-use native.Mathlib.Omega.{arith}
+use mathlib.Core.Path.{_∙_, sym}
 use borrow.Author.Needs.{needs}
-use borrow.Author.Tests.{le-leb, lt-leb}
-use lib.Dec.{leb}
-use lib.ListN.{length, getD, drop}
-use Rattle.protocol.specs.Encode.{errorFieldsGiven}
-use Rattle.writers.specs.Given.{isSome}
-use Rattle.writers.proofs.ErrorLaws.{errors-differ, error-next, error-end}
+use Rattle.writers.proofs.ErrorLaws.{errors-differ, errors-same}
 use Rattle.writers.proofs.errors.errors_given.Statement.{statement}
 use Rattle.writers.proofs.errors.errors_given.Tie as tie
 
-abbrev Inv-loop : tie.InvT-loop
-Inv-loop codes lengths joined i₀ j₀ i j =
-    (length codes ≡ length lengths) × (j ≤ length joined)
-    × (isSome (errorFieldsGiven codes lengths joined) ≡ isSome (errorFieldsGiven (drop i codes) (drop i lengths) (drop j joined)))
+returns : tie.Need-returns
+returns c = let a = c .before .before .before .before .args in sym (errors-differ (a .codes .now) (a .lengths .now) (a .joined .now) (c .if1 .taken))
 
-abbrev μ-loop : tie.MeasureT-loop
-μ-loop codes lengths joined i₀ j₀ i j = length lengths - i
-
-returns : tie.Need-returns Inv-loop μ-loop
-returns c = let a = c .before .args in sym (errors-differ (a .codes .now) (a .lengths .now) (a .joined .now) (c .if1 .taken))
-
-cast-k : tie.Need-cast-k Inv-loop μ-loop
-cast-k c = let f = c .shared-slice-known .given (c .before .before .loop .i) in record { fits = omega (arith, f .fits) }
-
--- the test that takes a string from what is left
-next : (c : tie.After-shared-slice-known Inv-loop μ-loop) → let q = c .before .before .loop in
-    let a = c .before .before .before .before .args in
-    let n = getD (a .lengths .now) (q .i) 0 in
-    isSome (errorFieldsGiven (a .codes .now) (a .lengths .now) (a .joined .now))
-    ≡ leb n (length (a .joined .now) - q .j) && isSome (errorFieldsGiven (drop (q .i + 1) (a .codes .now)) (drop (q .i + 1) (a .lengths .now)) (drop (q .j + n) (a .joined .now)))
-next c =
-    let q = c .before .before .loop in
-    let a = c .before .before .before .before .args in
-    q .inv .2 ∙ error-next (a .codes .now) (a .lengths .now) (a .joined .now) (q .i) (q .j) (omega arith) (q .inv .0)
-
-returns-2 : tie.Need-returns-2 Inv-loop μ-loop
-returns-2 c = sym (next (c .before) ∙ rw (lt-leb _ _ (c .if2 .taken)) refl)
-
-loop-again : tie.Need-loop-again Inv-loop μ-loop
-loop-again c = (search needs, omega arith, next (c .before) ∙ rw (le-leb _ _ (c .if2 .left)) refl)
-
-returns-3 : tie.Need-returns-3 Inv-loop μ-loop
-returns-3 c =
-    let q = c .before .loop in
-    let a = c .before .before .before .args in
-    sym (q .inv .2 ∙ error-end (a .codes .now) (a .lengths .now) (a .joined .now) (q .i) (q .j) (c .loop-test .left) (q .inv .0) (q .inv .1))
+returns-2 : tie.Need-returns-2
+returns-2 c =
+    let i = c .before in
+    let a = i .before .before .before .before .args in
+    c .texts-given .ensures ∙ sym (errors-same (a .codes .now) (a .lengths .now) (a .joined .now) (i .if1 .left))
 
 pub errors-given-spec : {M : Type 1} → statement M
-errors-given-spec =
-    tie.close
-    (tie.spec
-    Inv-loop
-    μ-loop
-    returns
-    (λ c. search needs)
-    (λ c. search needs)
-    (λ c. search needs)
-    cast-k
-    (λ c. search needs)
-    returns-2
-    (λ c. search needs)
-    (λ c. search needs)
-    (λ c. search needs)
-    loop-again
-    returns-3)
+errors-given-spec = tie.close (tie.spec returns (λ c κs. search needs) returns-2)

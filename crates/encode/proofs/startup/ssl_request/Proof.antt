@@ -1,0 +1,15 @@
+-- `encode::startup::ssl_request` meets its contract.
+use mathlib.Core.Path.{refl}
+use borrow.Author.Needs.{needs}
+use Rattle.protocol.specs.Kinds as K
+use Rattle.encode.specs.Given as G
+use Rattle.encode.proofs.Shapes.{asKind}
+use Rattle.encode.proofs.startup.ssl_request.Statement.{statement}
+use Rattle.encode.proofs.startup.ssl_request.Tie as tie
+
+returns : tie.Need-returns
+unfolding K.sslRequest G.sslRequest
+returns c = asKind (c .before .before .request .ensures) K.firstPacket (K.sslRequest .message) refl refl
+
+pub ssl-request-spec : {M : Type 1} → statement M
+ssl-request-spec = tie.close (tie.spec (λ c κs. search needs) (λ c. search needs) returns)
