@@ -16,21 +16,21 @@ use Rattle.protocol.specs.declared.response.GssEncResponse.{GssEncResponse}
 use Rattle.protocol.specs.declared.response.SslResponse.the-variants as Ssl
 use Rattle.protocol.specs.declared.response.SslResponse.{SslResponse}
 use Rattle.protocol.specs.Each.{HoldsEach, slotsOfEach}
-use Rattle.protocol.specs.Encode.{items, valuesGiven, errorFieldsGiven, rowFieldsGiven, sslKind, gssKind}
+use Rattle.protocol.specs.Encode.{items, valuesGiven, errorFieldsGiven, pairsGiven, rowFieldsGiven, sslKind, gssKind}
 use Rattle.protocol.specs.Fields.{AtomInRange, atomSlot, valueSlot, Item, ItemContent, itemBytes, itemSlots, InRange, bytes, slot}
 use Rattle.protocol.specs.Kinds as K
-use Rattle.protocol.specs.Kinds.{Kind, oid, format, nullable, rowField, errorField, valueElement}
+use Rattle.protocol.specs.Kinds.{Kind, oid, format, nullable, rowField, errorField, pair, valueElement}
 use Rattle.protocol.specs.WellFormed.{Contents, AllInRange, bodyStart, recordOf}
 use Rattle.protocol.specs.Kinds.{the-table}
 use Rattle.protocol.proofs.Basics.{zero-one}
 use Rattle.encode.specs.Given as G
 use Rattle.laws.specs.Arguments.{nth}
-use Rattle.by_kind.specs.ByName.{Back, ListIs, Oids, Formats, ValueIs, Values, RowFields, ErrorFields, theCodec, ComesBack, Bare, ByName}
+use Rattle.by_kind.specs.ByName.{Back, ListIs, Oids, Formats, ValueIs, Values, RowFields, ErrorFields, Pairs, theCodec, ComesBack, Bare, ByName}
 use Rattle.laws.specs.EncodeStatements.{theEncoder}
 use Rattle.laws.specs.Items.{itemFrom, found, AtomsPlaced, IsItem, Answers}
 use Rattle.laws.specs.Places.{AtomPlaced, ValuePlaced, FieldPlaced, FieldsPlaced}
 use Rattle.laws.specs.Statements.{theElementCall}
-use Rattle.laws.proofs.Arguments.{in-range, values, error-fields, row-fields, number-items}
+use Rattle.laws.proofs.Arguments.{in-range, values, error-fields, pairs, row-fields, number-items}
 use Rattle.laws.proofs.Elements.{no-item}
 use Rattle.laws.proofs.Encoding.{exactly, round-trip}
 
@@ -147,6 +147,18 @@ module _ (b : Back) (l p : ℕ) (list : ListSlot) where
         «format_code» = is .«format_code»;
       })
 
+  pairs-back : (lengths joined : List ℕ) (cs : List (ItemContent pair)) → pairsGiven lengths joined ≡ some cs → list .count ≡ length cs → ((i : ℕ) → Answers (b .bytes) (itemFrom pair p cs i) (b .element l i)) → Pairs b l list lengths joined
+  unfolding itemSlots slotsOfEach atomSlot AtomsPlaced AtomPlaced
+  pairs-back lengths joined cs g many calls =
+      let halves = pairs lengths joined .many cs g in
+      record {
+        count = omega (arith, halves, many);
+        element = λ i name value e m.
+            let w = item-at b l p list pair cs many calls i _ (pairs lengths joined .items cs g i name value e m) in
+            (_, _, w .1 .is, w .1 .placed .0, w .1 .placed .1 .0);
+        past = λ i h. rw (no-item pair p cs i (omega (arith, halves))) at (calls i);
+      }
+
 -- ---- the kinds
 
 -- an answer of one byte is a kind by itself
@@ -161,7 +173,7 @@ gss Gss.Accept = of-content K.gssAccept tt tt (λ b h. (tt, h .message))
 gss Gss.Refuse = of-content K.gssRefuse tt tt (λ b h. (tt, h .message))
 
 pub by-name : ByName theCodec
-unfolding the-table G.parse G.parseComplete G.close G.closeComplete G.bind G.bindComplete G.describe G.execute G.flush G.sync G.portalSuspended G.copyData G.copyDone G.copyFail G.copyInResponse G.copyOutResponse G.copyBothResponse G.rowDescription G.parameterDescription G.dataRow G.noData G.commandComplete G.emptyQueryResponse G.readyForQuery G.errorResponse G.noticeResponse G.notificationResponse G.cancelRequest HoldsEach InRange AtomInRange found FieldsPlaced FieldPlaced AtomPlaced slotsOfEach slot atomSlot
+unfolding the-table G.parse G.parseComplete G.close G.closeComplete G.bind G.bindComplete G.describe G.execute G.flush G.sync G.portalSuspended G.copyData G.copyDone G.copyFail G.copyInResponse G.copyOutResponse G.copyBothResponse G.rowDescription G.parameterDescription G.dataRow G.noData G.commandComplete G.emptyQueryResponse G.readyForQuery G.errorResponse G.noticeResponse G.notificationResponse G.cancelRequest G.startup G.sslRequest G.gssEncRequest G.parameterStatus G.backendKeyData G.query G.terminate HoldsEach InRange AtomInRange found FieldsPlaced FieldPlaced AtomPlaced slotsOfEach slot atomSlot
 by-name = record {
   parse = λ name query types n q o.
       of-content K.parse (name, (query, (items types, tt))) (n, (q, (in-range .oids types o, tt)))
@@ -227,4 +239,13 @@ by-name = record {
   «ssl_response» = tls;
   «gss_enc_response» = gss;
   «cancel_request» = λ pid key i k. of-content K.cancelRequest (pid, (key, tt)) (i, (k, tt)) (λ b h. (_, (h .message, refl, refl)));
+  startup = λ lengths joined j.
+      of-made K.startup (λ ps. (ps, tt)) (pairsGiven lengths joined) (λ ps e. (in-range .pairs lengths joined ps j e, tt))
+      (λ ps b e h. (_, (h .message, pairs-back b 0 _ _ lengths joined ps e (h .placed .0 .1) (h .elements 0))));
+  «ssl_request» = of-content K.sslRequest tt tt (λ b h. (tt, h .message));
+  «gss_enc_request» = of-content K.gssEncRequest tt tt (λ b h. (tt, h .message));
+  «parameter_status» = λ name own n v. of-content K.parameterStatus (name, (own, tt)) (n, (v, tt)) (λ b h. (_, (h .message, h .placed .0, h .placed .1 .0)));
+  «backend_key_data» = λ pid key i k. of-content K.backendKeyData (pid, (key, tt)) (i, (k, tt)) (λ b h. (_, (h .message, refl, refl)));
+  query = λ query q. of-content K.query (query, tt) (q, tt) (λ b h. (_, (h .message, h .placed .0)));
+  terminate = of-content K.terminate tt tt (λ b h. (tt, h .message));
 }

@@ -2,7 +2,7 @@
 -- that decoding gives, each field with the argument of its name. EncodeStatements (laws) says the round trip of contents, which are known by
 -- their places; here the arguments alone are: which is which is read off the `ensures` line of the encoder, where `G.bind` and its like are
 -- applied by position.
-use Prim.Native.Nat.{ℕ, _≤_}
+use Prim.Native.Nat.{ℕ, _+_, _*_, _≤_}
 use mathlib.Core.List.{List, _++_}
 use mathlib.Core.Option.{Option, some, none}
 use mathlib.Core.Path.{_≡_}
@@ -37,6 +37,10 @@ use Rattle.protocol.specs.declared.response.NoticeResponse.{NoticeResponse}
 use Rattle.protocol.specs.declared.response.NotificationResponse.{NotificationResponse}
 use Rattle.protocol.specs.declared.response.ReadyForQuery.{ReadyForQuery}
 use Rattle.protocol.specs.declared.response.SslResponse.{SslResponse}
+use Rattle.protocol.specs.declared.simplequery.Query.{Query}
+use Rattle.protocol.specs.declared.startup.BackendKeyData.{BackendKeyData}
+use Rattle.protocol.specs.declared.startup.ParameterStatus.{ParameterStatus}
+use Rattle.protocol.specs.declared.startup.Startup.{Startup}
 use Rattle.protocol.specs.Answers.{success, refusal, ofDecoded, ofElement, ofEncoded}
 use Rattle.protocol.specs.Bytes.{Bytes, partOf}
 use Rattle.protocol.specs.Encode.{sslKind, gssKind}
@@ -105,6 +109,16 @@ abbrev pub ErrorFields : Back → ℕ → ListSlot → List ℕ → List ℕ →
 ErrorFields b l list codes lengths joined =
     ListIs b l list codes
     (λ i code e. (n : ℕ) → nth lengths i ≡ some n → ErrorFieldIs b code (take n (drop (total itself (take i lengths)) joined)) e)
+
+-- start-up arguments: one for each two lengths, its name and its value the bytes of the joined run after the earlier lengths
+abbrev pub PairIs : Back → List ℕ → List ℕ → Element → Type 0
+PairIs b name own e = (n : Span) × (v : Span) × (ofElement e ≡ success (E.Pair n v) 0) × Text b n name × Text b v own
+
+pub record Pairs (b : Back) (l : ℕ) (list : ListSlot) (lengths joined : List ℕ) : Type 0 where
+  pub count : length lengths ≡ 2 * list .count
+  pub element : (i name value : ℕ) → nth lengths (2 * i) ≡ some name → nth lengths (2 * i + 1) ≡ some value
+      → PairIs b (take name (drop (total itself (take (2 * i) lengths)) joined)) (take value (drop (total itself (take (2 * i + 1) lengths)) joined)) (b .element l i)
+  pub past : (i : ℕ) → length lengths ≤ 2 * i → ofElement (b .element l i) ≡ refusal noSuchElement 0
 
 -- ---- what an encoder wrote
 
@@ -250,3 +264,30 @@ pub record ByName (codec : Codec) : Type 0 where
       (λ b r. (b .message ≡ M.CancelRequest r)
       × (r .pid ≡ pid)
       × (r .«secret_key» ≡ «secret_key»))
+  -- ---- startup.rs
+
+  pub startup : (lengths joined : List ℕ) → Bytes joined
+      → ComesBack codec K.startup (G.startup lengths joined) Startup
+      (λ b r. (b .message ≡ M.Startup r)
+      × Pairs b 0 (r .parameters) lengths joined)
+  pub «ssl_request» : ComesBack codec K.sslRequest G.sslRequest (Unit {0}) (Bare M.SslRequest)
+  pub «gss_enc_request» : ComesBack codec K.gssEncRequest G.gssEncRequest (Unit {0}) (Bare M.GssEncRequest)
+  pub «parameter_status» : (name value : List ℕ) → Bytes name → Bytes value
+      → ComesBack codec K.parameterStatus (G.parameterStatus name value) ParameterStatus
+      (λ b r. (b .message ≡ M.ParameterStatus r)
+      × Text b (r .name) name
+      × Text b (r .value) value)
+  pub «backend_key_data» : (pid «secret_key» : ℤ) → Signed 4 pid → Signed 4 «secret_key»
+      → ComesBack codec K.backendKeyData (G.backendKeyData pid «secret_key») BackendKeyData
+      (λ b r. (b .message ≡ M.BackendKeyData r)
+      × (r .pid ≡ pid)
+      × (r .«secret_key» ≡ «secret_key»))
+  -- ---- simplequery.rs
+
+  pub query : (query : List ℕ) → Bytes query
+      → ComesBack codec K.query (G.query query) Query
+      (λ b r. (b .message ≡ M.Query r)
+      × Text b (r .query) query)
+  -- ---- terminate.rs
+
+  pub terminate : ComesBack codec K.terminate G.terminate (Unit {0}) (Bare M.Terminate)

@@ -78,6 +78,12 @@ formats name = n name ("format" ∶ i 16 ∷ [])
 abbrev errors : Column
 errors = untilZero "fields" ("code" ∶ u 8 ∷ "string" ∶ string ∷ [])
 
+abbrev arguments : Column
+arguments = untilZero "parameters" ("name" ∶ string ∷ "value" ∶ string ∷ [])
+
+abbrev key : List Column
+key = one ("pid" ∶ i 32) ∷ one ("secret_key" ∶ i 32) ∷ []
+
 abbrev pub frontend : List Line
 frontend =
     line "Parse" "P" 8 L (one ("name" ∶ string) ∷ one ("query" ∶ string) ∷ n "type_oids" ("oid" ∶ u 32 ∷ []) ∷ [])
@@ -96,6 +102,8 @@ frontend =
     ∷ line "CopyDone" "c" 4 house []
     ∷ line "CopyData" "d" 4 L (one ("data" ∶ rest) ∷ [])
     ∷ line "CopyFail" "f" 5 house (one ("message" ∶ string) ∷ [])
+    ∷ line "Query" "Q" 5 house (one ("query" ∶ string) ∷ [])
+    ∷ line "Terminate" "X" 4 house []
     ∷ []
 
 abbrev pub backend : List Line
@@ -129,16 +137,23 @@ backend =
     ∷ line "CopyBothResponse" "W" 7 house (one ("format" ∶ i 8) ∷ formats "column_formats" ∷ [])
     ∷ line "NotificationResponse" "A" 10 L (one ("pid" ∶ i 32) ∷ one ("channel" ∶ string) ∷ one ("payload" ∶ string) ∷ [])
     ∷ line "CopyData" "d" 4 L (one ("data" ∶ rest) ∷ [])
+    ∷ line "ParameterStatus" "S" 6 house (one ("name" ∶ string) ∷ one ("value" ∶ string) ∷ [])
+    ∷ line "BackendKeyData" "K" 12 house key
     ∷ []
 
+abbrev untypedLine : String → ℕ → ℕ → List Column → Line
+untypedLine name tag smallest body = record { name = name; tag = tag; smallest = smallest; limit = house; body = body }
+
 abbrev cancel : Line
-cancel = record {
-  name = "CancelRequest";
-  tag = 80877102;
-  smallest = 16;
-  limit = house;
-  body = one ("pid" ∶ i 32) ∷ one ("secret_key" ∶ i 32) ∷ [];
-}
+cancel = untypedLine "CancelRequest" 80877102 16 key
+
+abbrev first : List Line
+first =
+    untypedLine "Startup" 196608 9 (arguments ∷ [])
+    ∷ untypedLine "SslRequest" 80877103 8 []
+    ∷ untypedLine "GssEncRequest" 80877104 8 []
+    ∷ cancel
+    ∷ []
 
 abbrev pub document : List Page
 document =
@@ -147,6 +162,7 @@ document =
     ∷ record { mode = 2; envelope = untyped; lines = cancel ∷ [] }
     ∷ record { mode = 3; envelope = bare; lines = line "SslResponse" "S" 1 1 [] ∷ line "SslResponse" "N" 1 1 [] ∷ [] }
     ∷ record { mode = 4; envelope = bare; lines = line "GssEncResponse" "G" 1 1 [] ∷ line "GssEncResponse" "N" 1 1 [] ∷ [] }
+    ∷ record { mode = 5; envelope = untyped; lines = first }
     ∷ []
 
 -- ---- what a record holds, and what an element holds, field by field in the body's order, each under its name
@@ -171,6 +187,12 @@ target t name = "target_type" ≔ number t ∷ "name" ≔ part name ∷ []
 
 abbrev copying : ℤ → ListSlot → List Named
 copying format formats = "format" ≔ integer format ∷ "column_formats" ≔ list formats ∷ []
+
+abbrev cancelKey : ℤ → ℤ → List Named
+cancelKey pid secret = "pid" ≔ integer pid ∷ "secret_key" ≔ integer secret ∷ []
+
+abbrev pairOf : Span → Span → List Named
+pairOf name of = "name" ≔ part name ∷ "value" ≔ part of ∷ []
 
 abbrev pub fieldsOf : Message → List Named
 fieldsOf (M.Parse m) = "name" ≔ part (m .name) ∷ "query" ≔ part (m .query) ∷ "type_oids" ≔ list (m .«type_oids») ∷ []
@@ -206,9 +228,16 @@ fieldsOf (M.CopyInResponse m) = copying (m .format) (m .«column_formats»)
 fieldsOf (M.CopyOutResponse m) = copying (m .format) (m .«column_formats»)
 fieldsOf (M.CopyBothResponse m) = copying (m .format) (m .«column_formats»)
 fieldsOf (M.NotificationResponse m) = "pid" ≔ integer (m .pid) ∷ "channel" ≔ part (m .channel) ∷ "payload" ≔ part (m .payload) ∷ []
-fieldsOf (M.CancelRequest m) = "pid" ≔ integer (m .pid) ∷ "secret_key" ≔ integer (m .«secret_key») ∷ []
+fieldsOf (M.CancelRequest m) = cancelKey (m .pid) (m .«secret_key»)
 fieldsOf (M.SslResponse m) = []
 fieldsOf (M.GssEncResponse m) = []
+fieldsOf (M.Startup m) = "parameters" ≔ list (m .parameters) ∷ []
+fieldsOf M.SslRequest = []
+fieldsOf M.GssEncRequest = []
+fieldsOf (M.Query m) = "query" ≔ part (m .query) ∷ []
+fieldsOf M.Terminate = []
+fieldsOf (M.ParameterStatus m) = pairOf (m .name) (m .value)
+fieldsOf (M.BackendKeyData m) = cancelKey (m .pid) (m .«secret_key»)
 
 -- an element that is one thing has the name of its sort
 abbrev pub elementFields : Element → List Named
@@ -226,6 +255,7 @@ elementFields (E.Field d) =
     ∷ "format_code" ≔ integer (d .«format_code»)
     ∷ []
 elementFields (E.ErrorField c s) = "code" ≔ number c ∷ "string" ≔ part s ∷ []
+elementFields (E.Pair name of) = pairOf name of
 elementFields E.NeedMore = []
 elementFields (E.Refused k p) = []
 
