@@ -1,20 +1,21 @@
 -- What a call of an encoder asks for, by the number of the kind's row; the number that is answered, and what the output then holds.
 use Prim.Native.Nat.{ℕ, _-_}
-use mathlib.Core.Bool.{cond}
-use mathlib.Core.List.{List, [], _∷_, _++_}
+use mathlib.Core.Bool.{true, cond}
+use mathlib.Core.List.{List, [], _∷_, _++_, map}
 use mathlib.Core.Option.{Option, some, none}
 use mathlib.Core.Path.{_≡_}
 use lib.Dec.{ltb}
-use lib.IntN.{ℤ}
+use lib.IntN.{ℤ, pos}
 use lib.ListN.{length}
 use Rattle.protocol.specs.declared.Encoded.the-variants as N
 use Rattle.protocol.specs.declared.Encoded.{Encoded}
 use Rattle.protocol.specs.declared.data.FieldDescription.{FieldDescription}
 use Rattle.protocol.specs.declared.response.GssEncResponse.the-variants as Gss
 use Rattle.protocol.specs.declared.response.SslResponse.the-variants as Ssl
+use Rattle.protocol.specs.Bytes.{isOneOf}
 use Rattle.protocol.specs.Encode.{encodedBy, writtenBy}
 use Rattle.protocol.specs.Kinds as K
-use Rattle.protocol.specs.Kinds.{Kind, Mode, find}
+use Rattle.protocol.specs.Kinds.{Kind, Mode, modes, IsIn, find}
 use Rattle.protocol.specs.Refusals.{typeUnknown}
 use Rattle.protocol.specs.Views.{kindNumber}
 use Rattle.protocol.specs.WellFormed.{Contents}
@@ -119,6 +120,17 @@ askedLists kind format one two joined words lengths formats results = askedIn (l
 
 abbrev pub askedRow : List FieldDescription → List ℕ → Option Asked
 askedRow fields run = asks K.backend K.rowDescription (G.rowDescription fields run)
+
+-- ---- no kind is left out
+
+-- the numbers that some call knows, whatever its other arguments are
+abbrev pub askedNumbers : List ℕ
+askedNumbers =
+    map rowNumber (fieldRows 0 (pos 0) (pos 0) [] [] ++ bareRows ++ listRows (pos 0) [] [] [] [] [] [] []) ++ kindNumber K.rowDescription ∷ []
+
+-- every row of the table of kinds can be asked for
+abbrev pub EveryKindAsked : Type 0
+EveryKindAsked = (m : Mode) → IsIn m modes → (k : Kind) → IsIn k (m .kinds) → isOneOf (kindNumber k) askedNumbers ≡ true
 
 -- ---- the answer and the output
 
