@@ -1,6 +1,7 @@
 -- `writers::judged` meets its contract.
 use Prim.Native.Nat.{_+_}
 use mathlib.Core.Path.{refl}
+use native.Mathlib.Omega.{arith}
 use borrow.Author.Needs.{needs}
 use borrow.Author.Tests.{lt-ltb, le-ltb}
 use Rattle.writers.specs.Writing.{verdictOf}
@@ -15,13 +16,13 @@ returns-2 : tie.Need-returns-2
 unfolding verdictOf
 returns-2 c =
     let a = c .before .before .before .args in
-    rw (c .before .before .if1 .taken, le-ltb _ _ (c .before .if2 .left), le-ltb (a .room) (a .size + a .uncounted) (c .if3 .taken)) refl
+    rw (c .before .before .if1 .taken, le-ltb _ _ (c .before .if2 .left), le-ltb (a .room) (a .size + a .uncounted) (omega arith)) refl
 
 returns-3 : tie.Need-returns-3
 unfolding verdictOf
 returns-3 c =
     let a = c .before .before .before .args in
-    rw (c .before .before .if1 .taken, le-ltb _ _ (c .before .if2 .left), lt-ltb (a .room) (a .size + a .uncounted) (c .if3 .left)) refl
+    rw (c .before .before .if1 .taken, le-ltb _ _ (c .before .if2 .left), lt-ltb (a .room) (a .size + a .uncounted) (omega arith)) refl
 
 returns-4 : tie.Need-returns-4
 unfolding verdictOf
