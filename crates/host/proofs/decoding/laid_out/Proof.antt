@@ -6,7 +6,7 @@ use Rattle.host.proofs.decoding.laid_out.Tie as tie
 
 returns : tie.Need-returns
 unfolding laidOut
-returns c = rw (c .before .before .decoded .given .1) (c .«record» .ensures)
+returns c = rw (c .before .before .decoded .given .1) (c .refused .ensures)
 
 returns-2 : tie.Need-returns-2
 unfolding laidOut
@@ -14,7 +14,7 @@ returns-2 c = rw (c .before .enum-told .given .1) (c .need-more .ensures)
 
 returns-3 : tie.Need-returns-3
 unfolding laidOut
-returns-3 c = rw (c .before .before .decoded2 .given .1) (c .refused .ensures)
+returns-3 c = rw (c .before .before .decoded2 .given .1) (c .«record» .ensures)
 
 pub laid-out-spec : {M : Type 1} → statement M
 laid-out-spec =
