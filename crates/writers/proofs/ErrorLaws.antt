@@ -1,13 +1,13 @@
 -- An error's fields, one after the other: when codes, lengths and bytes are some, and what is written of them.
 use Prim.Native.Nat.{ℕ, suc, _+_, _*_, _-_, _%_, _≤_, _<_}
-use mathlib.Core.Bool.{Bool, true, false, not, _&&_, and-true, and-false, true≢false}
+use mathlib.Core.Bool.{Bool, true, false, _&&_, and-true, and-false, true≢false}
 use mathlib.Core.List.{List, [], _∷_, _++_, append-nil}
 use mathlib.Core.Option.{some}
 use mathlib.Core.Path.{_≡_, refl, ap, _∙_, sym}
 use native.Mathlib.Omega.{arith}
-use borrow.Author.Tests.{leb-true, eq-eqb, ne-eqb, eqb-true, eqb-false}
+use borrow.Author.Tests.{leb-true, eqb-true, eqb-false}
 use lib.Dec.{leb, eqb}
-use lib.ListN.{length, getD, take, drop, length-append, length-drop, take-append-drop}
+use lib.ListN.{length, getD, take, drop, length-append, length-drop}
 use lib.Seq.{length-take-le, drop-drop}
 use Rattle.protocol.specs.declared.Rules.{Rules}
 use Rattle.protocol.specs.Bytes.{noZero, be}
@@ -15,7 +15,7 @@ use Rattle.protocol.specs.Each.{ableEach, bytesOfEach}
 use Rattle.protocol.specs.Encode.{errorFieldsGiven, textsGiven}
 use Rattle.protocol.specs.Fields.{ItemContent, able, bytes, atomAble, atomBytes, itemAble, itemBytes, itemsAble, itemsBytes, zeroFirst, noneEnds}
 use Rattle.protocol.specs.Kinds.{errorField, errorFields}
-use Rattle.protocol.proofs.Basics.{none-some, and-left, and-right}
+use Rattle.protocol.proofs.Basics.{none-some}
 use Rattle.writers.specs.Given.{isSome}
 use Rattle.writers.proofs.GivenLaws.{first, some-first}
 use Rattle.writers.proofs.Laws.{drop-more, drop-end}
