@@ -179,14 +179,14 @@ pub fn first_packet(rules: Rules, buf: &[u8]) -> Decoded
     ensures { λ r. ⌜ r ≡ decodeIn rules K.firstPacket (now (buf .entry)) ⌝ }
 {
     let c = Cursor { at: CODE_AT };
-    let Word::Is(code, _) = c.word(buf) else {
+    let Word::Is(word, _) = c.word(buf) else {
         return Decoded::NeedMore;
     };
-    match code {
+    match word {
         Startup::PROTOCOL_VERSION_3_0 => startup::startup(rules, buf),
         SslRequest::BODY_MAGIC_NUMBER => startup::ssl_request(rules, buf),
         GssEncRequest::BODY_MAGIC_NUMBER => startup::gss_enc_request(rules, buf),
         CancelRequest::CANCEL_REQUEST_CODE => cancel::cancel_request(rules, buf),
-        _ => Decoded::Refused(TYPE_UNKNOWN, CODE_AT),
+        _ => Decoded::Refused(TYPE_UNKNOWN, c.at),
     }
 }

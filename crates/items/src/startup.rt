@@ -23,10 +23,10 @@ pub fn pair(rules: Rules, frame: &[u8], c: Cursor) -> PairStep
     let Text::Is(name, c) = c.text(rules, frame) else {
         return PairStep::Cut(c.at);
     };
-    let Text::Is(value, c) = c.text(rules, frame) else {
-        return PairStep::Cut(c.at);
-    };
-    PairStep::Is(name, value, c)
+    match c.text(rules, frame) {
+        Text::Is(value, next) => PairStep::Is(name, value, next),
+        Text::Cut => PairStep::Cut(c.at),
+    }
 }
 
 pub fn pass_pair(rules: Rules, frame: &[u8], c: Cursor) -> Passed

@@ -19,9 +19,9 @@ returns c =
 abbrev start : tie.After-known-told → tie.Start
 start c = c .before .before .before .before .before
 
--- the code was read
-tag : (c : tie.After-known-told) → Whole 4 (start c .args .buf .now) 4 (c .before .code .given .0 .0) (c .before .code .given .0 .1 .0 .at)
-tag c = whole 4 _ _ _ _ (sym (c .before .before .before .word .ensures) ∙ ap (wordRead 4) (c .before .code .given .1))
+-- the word was read
+tag : (c : tie.After-known-told) → Whole 4 (start c .args .buf .now) 4 (c .before .word2 .given .0 .0) (c .before .word2 .given .0 .1 .0 .at)
+tag c = whole 4 _ _ _ _ (sym (c .before .before .before .word .ensures) ∙ ap (wordRead 4) (c .before .word2 .given .1))
 
 pub first-packet-spec : {M : Type 1} → statement M
 unfolding find kindIn the-table

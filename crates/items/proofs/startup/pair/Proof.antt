@@ -9,15 +9,15 @@ returns c = rw (← c .before .before .text .ensures, c .enum-told .given .1) re
 
 returns-2 : tie.Need-returns-2
 returns-2 c =
-    let s2 = c .before .before in
-    let s1 = s2 .before .before .before .before in
-    rw (← s1 .text .ensures, s2 .before .before .name .given .1, ← s2 .text2 .ensures, c .enum-told2 .given .1) refl
-
-returns-3 : tie.Need-returns-3
-returns-3 c =
     let s2 = c .before .before .before in
     let s1 = s2 .before .before .before .before in
     rw (← s1 .text .ensures, s2 .before .before .name .given .1, ← s2 .text2 .ensures, c .before .value .given .1) refl
+
+returns-3 : tie.Need-returns-3
+returns-3 c =
+    let s2 = c .before .before in
+    let s1 = s2 .before .before .before .before in
+    rw (← s1 .text .ensures, s2 .before .before .name .given .1, ← s2 .text2 .ensures, c .enum-told2 .given .1) refl
 
 pub pair-spec : {M : Type 1} → statement M
 pair-spec =
