@@ -12,7 +12,7 @@ use Rattle.protocol.specs.declared.data.FieldDescription.{FieldDescription}
 use Rattle.protocol.specs.Encode.{writtenBy}
 use Rattle.protocol.specs.Each.{Each}
 use Rattle.protocol.specs.Fields.{AtomSlot}
-use Rattle.protocol.specs.Kinds.{errorField}
+use Rattle.protocol.specs.Kinds.{errorField, pair}
 use Rattle.protocol.specs.Reading.{Read, got, bad}
 use Rattle.protocol.specs.Refusals.{cut}
 use Rattle.protocol.specs.Stream as Stream
@@ -32,11 +32,13 @@ use Rattle.codec.specs.declared.Value.the-variants as Va
 use Rattle.codec.specs.declared.Value.{Value}
 use Rattle.codec.specs.declared.Word.the-variants as W
 use Rattle.codec.specs.declared.Word.{Word}
-use Rattle.items.specs.ItemRead.{errorRead, fieldRead}
+use Rattle.items.specs.ItemRead.{errorRead, fieldRead, pairRead}
 use Rattle.items.specs.declared.data.FieldStep.the-variants as F
 use Rattle.items.specs.declared.data.FieldStep.{FieldStep}
 use Rattle.items.specs.declared.response.ErrorStep.the-variants as E
 use Rattle.items.specs.declared.response.ErrorStep.{ErrorStep}
+use Rattle.items.specs.declared.startup.PairStep.the-variants as P
+use Rattle.items.specs.declared.startup.PairStep.{PairStep}
 use Rattle.listing.specs.Listing.{stepOf}
 use Rattle.listing.specs.declared.Step.the-variants as S
 use Rattle.listing.specs.declared.Step.{Step}
@@ -126,6 +128,14 @@ error-again : (r : ErrorStep) → error-back (errorRead r) ≡ r
 error-again (E.Is code string c) = refl
 error-again (E.Cut p) = refl
 
+abbrev pair-back : Read (Each AtomSlot (pair .atoms)) → PairStep
+pair-back (got s q) = P.Is (s .0) (s .1 .0) (record { at = q })
+pair-back (bad number place) = P.Cut place
+
+pair-again : (r : PairStep) → pair-back (pairRead r) ≡ r
+pair-again (P.Is name value c) = refl
+pair-again (P.Cut p) = refl
+
 abbrev step-back : Stream.Step → Step
 step-back (frame m n) = S.Frame m n
 step-back (stop whole) = S.Whole
@@ -157,6 +167,7 @@ pub items-tell : ItemsTell
 items-tell = record {
   field = told-back fieldRead field-back field-again;
   errorField = told-back errorRead error-back error-again;
+  pair = told-back pairRead pair-back pair-again;
 }
 
 pub listing-tells : ListingTells

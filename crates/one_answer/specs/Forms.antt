@@ -17,7 +17,7 @@ use Rattle.protocol.specs.WellFormed.{Contents}
 use Rattle.codec.specs.CursorRead.{byteRead, halfRead, wordRead, textRead, valueRead, listedRead, passedRead}
 use Rattle.host.specs.Asked.{Asked, Answers}
 use Rattle.host_parts.specs.Reads.{LaysRow}
-use Rattle.items.specs.ItemRead.{fieldRead, errorRead}
+use Rattle.items.specs.ItemRead.{fieldRead, errorRead, pairRead}
 use Rattle.listing.specs.Listing.{Lines, Fills, stepOf}
 use Rattle.listing.specs.declared.Filled.{Filled}
 use Rattle.reader.specs.Row.{ReadsRow}
@@ -64,10 +64,11 @@ pub record StepsTell : Type 0 where
   pub listed : Tells listedRead
   pub passed : Tells passedRead
 
--- a row's field and an error's
+-- a row's field, an error's and a start-up argument
 pub record ItemsTell : Type 0 where
   pub field : Tells fieldRead
   pub errorField : Tells errorRead
+  pub pair : Tells pairRead
 
 -- a step of the listing
 abbrev pub ListingTells : Type 0
