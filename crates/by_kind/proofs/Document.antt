@@ -19,6 +19,10 @@ backend-lines : map lineOf (K.backend .kinds) ≡ Document.backend
 unfolding the-table valueElement
 backend-lines = refl
 
+first-lines : map lineOf (K.firstPacket .kinds) ≡ Document.first
+unfolding the-table valueElement
+first-lines = refl
+
 -- ---- the names of what a record and its elements hold
 
 -- a value, or NULL
@@ -51,7 +55,7 @@ gss-answers = refl
 pub table-is-document : TableIsDocument modes
 unfolding the-table
 table-is-document = record {
-  lines = rw (frontend-lines, backend-lines) refl;
+  lines = rw (frontend-lines, backend-lines, first-lines) refl;
   records = λ m i k j. in-all Holding (m .kinds) (in-all (λ (m : Mode). All Holding (m .kinds)) modes all-hold m i) k j;
   answers = (tls-answers, gss-answers);
 }

@@ -147,7 +147,7 @@ untypedLine name tag smallest body = record { name = name; tag = tag; smallest =
 abbrev cancel : Line
 cancel = untypedLine "CancelRequest" 80877102 16 key
 
-abbrev first : List Line
+abbrev pub first : List Line
 first =
     untypedLine "Startup" 196608 9 (arguments ∷ [])
     ∷ untypedLine "SslRequest" 80877103 8 []
