@@ -61,7 +61,7 @@ Complete decode =
     → ofDecoded (decode rules (frame (m .envelope) k c ++ t)) ≡ success (recordOf (m .envelope) k c) (length (frame (m .envelope) k c))
 
 -- 3. Fields. The part of the buffer at each of a record's positions is that field's content; a list's count is its content's, and its start is
--- the byte after its count, also when it is empty (an error's is 5, where its body starts).
+-- the byte after its count, also when it is empty (an error's is 5 and a start-up's 8, where the body starts).
 pub record Placed (rules : Rules) (s : List ℕ) (r : Message) (n : ℕ) : Type 0 where
   pub accepted : Accepted rules s r n
   pub slots : Each Slot (accepted .kind .body)

@@ -25,7 +25,7 @@ pub record TypedWaits (kinds : List Kind) (s : List ℕ) : Type 0 where
   pub some : 1 ≤ length s
   pub rest : (length s < 5) ⊎ LengthWaits kind 1 s
 
--- mode 2: a code of a kind, and a right length
+-- modes 2 and 5: a code of a kind, and a right length
 pub record UntypedWaits (kinds : List Kind) (s : List ℕ) : Type 0 where
   pub kind : Kind
   pub known : IsIn kind kinds

@@ -1,8 +1,8 @@
 // The refusals' numbers (docs/FORMAT.md 6).
 
-// The mode is none of 0 to 4.
+// The mode is none of 0 to 5.
 pub const MODE_UNKNOWN: u8 = 1;
-// The type byte, the answer byte or the cancel code is none of the mode's.
+// The type byte, the answer byte or the code is none of the mode's.
 pub const TYPE_UNKNOWN: u8 = 2;
 // The length word is below the kind's smallest length.
 pub const LENGTH_TOO_SMALL: u8 = 3;
