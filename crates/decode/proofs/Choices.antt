@@ -10,7 +10,7 @@ use lib.Seq.{length-take-le}
 use Rattle.protocol.specs.declared.Decoded.the-variants as D
 use Rattle.protocol.specs.declared.Message.{Message}
 use Rattle.protocol.specs.declared.Rules.{Rules}
-use Rattle.protocol.specs.declared.kinds.Bounds.{Bounds}
+use Rattle.protocol.specs.declared.kinds.Line.{Line}
 use Rattle.protocol.specs.Decode.{typedBy, untypedBy, bareBy, tagPlace, tagAt, headerIn, headerBy, headerOf, closed, decodedBy, decodeBy, decodeIn, decodeOf}
 use Rattle.protocol.specs.Kinds.{Envelope, typed, untyped, bare, Kind, Mode, modeOf, kindIn}
 use Rattle.protocol.specs.Refusals.{typeUnknown}
@@ -58,6 +58,6 @@ module _ (rules : Rules) (s : List ℕ) where
     in-mode e = rw e refl
 
   -- a frame of one byte has no body
-  pub lone : (b : Bounds) (message : Message) → 1 ≤ length s → D.Record message 1 ≡ decodeMade rules bare b [] (λ _. message) s
+  pub lone : (l : Line) (message : Message) → 1 ≤ length s → D.Record message 1 ≡ decodeMade rules bare l [] (λ _. message) s
   unfolding endIn closed decodedBy
-  lone b message h = rw (ne-eqb (length s) 0 (omega arith), length-take-le 1 s h) refl
+  lone l message h = rw (ne-eqb (length s) 0 (omega arith), length-take-le 1 s h) refl

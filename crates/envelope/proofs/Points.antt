@@ -15,12 +15,13 @@ use Rattle.protocol.specs.declared.Decoded.the-variants as D
 use Rattle.protocol.specs.declared.Decoded.{Decoded}
 use Rattle.protocol.specs.declared.Message.{Message}
 use Rattle.protocol.specs.declared.Rules.{Rules}
-use Rattle.protocol.specs.declared.kinds.Bounds.{Bounds}
+use Rattle.protocol.specs.declared.kinds.Line.{Line}
 use Rattle.protocol.specs.Bytes.{numberAt, signedOf, isOneOf}
 use Rattle.protocol.specs.Decode.{more, refuse, framed, lengthBy, typedBy, untypedBy, bareBy, headerIn, closed, bodyOf, decodedBy, decodeBy, decodeAs}
 use Rattle.protocol.specs.Each.{Each}
 use Rattle.protocol.specs.Fields.{Field, Slot}
 use Rattle.protocol.specs.Kinds.{Envelope, typed, untyped, bare, Kind}
+use Rattle.protocol.specs.Lines.{lineOf}
 use Rattle.protocol.specs.Reading.{Read, got, bad, andThen, read}
 use Rattle.protocol.specs.Refusals.{lengthTooSmall, lengthAboveLimit, notAllowed}
 use Rattle.protocol.specs.WellFormed.{bodyStart}
@@ -67,16 +68,12 @@ module _ (bs : List ℕ) (p : ℕ) {r : Read ℕ} where
 
 -- ---- the envelope
 
--- where the frame ends, by its own bounds
-abbrev pub boundsOf : Kind → Bounds
-boundsOf k = record { 0 = k .smallest; 1 = k .limit }
-
 -- the length word at p: its checks, and the body of a whole frame
 module _ (rules : Rules) (k : Kind) (p start : ℕ) (s : List ℕ) where
   abbrev body : List ℕ → Decoded
   body f = leftOf rules (k .body) (k .message) f start
 
-  length-as : (z : ℤ) → framedBy (endOf (boundsOf k) p (length s) z) s body ≡ decodeBy rules s (lengthBy k p start s z)
+  length-as : (z : ℤ) → framedBy (endOf (lineOf k) p (length s) z) s body ≡ decodeBy rules s (lengthBy k p start s z)
   unfolding endOf lengthBy decodeBy
   length-as (negsuc n) = refl
   length-as (pos n) = by (ltb n (k .smallest)) (ltb (k .limit) n) (ltb (length s) (p + n)) refl
@@ -89,13 +86,13 @@ module _ (rules : Rules) (k : Kind) (p start : ℕ) (s : List ℕ) where
       by false false true h = refl
       by false false false h = ap (decodedBy (bodyOf rules k (take (p + n) s) start)) (length-take-le (p + n) s (ltb-false _ _ h))
 
--- a kind's decoder is the one for its bounds, its body and its message
-pub made-as : (rules : Rules) (e : Envelope) (k : Kind) (s : List ℕ) → decodeMade rules e (boundsOf k) (k .body) (k .message) s ≡ decodeAs rules e k s
+-- a kind's decoder is the one for its line, its body and its message
+pub made-as : (rules : Rules) (e : Envelope) (k : Kind) (s : List ℕ) → decodeMade rules e (lineOf k) (k .body) (k .message) s ≡ decodeAs rules e k s
 unfolding endIn headerIn typedBy untypedBy bareBy decodeBy
 made-as rules typed k s = by (eqb (length s) 0) (ltb (length s) 5) refl refl
   where
     by : (none short : Bool) → eqb (length s) 0 ≡ none → ltb (length s) 5 ≡ short
-        → framedBy (cond short H.NeedMore (endOf (boundsOf k) 1 (length s) (signedOf 4 (numberAt 4 s 1)))) s (λ f. leftOf rules (k .body) (k .message) f 5)
+        → framedBy (cond short H.NeedMore (endOf (lineOf k) 1 (length s) (signedOf 4 (numberAt 4 s 1)))) s (λ f. leftOf rules (k .body) (k .message) f 5)
         ≡ decodeBy rules s (cond none more (cond short more (lengthBy k 1 5 s (signedOf 4 (numberAt 4 s 1)))))
     by true true h g = refl
     by true false h g =
@@ -107,7 +104,7 @@ made-as rules typed k s = by (eqb (length s) 0) (ltb (length s) 5) refl refl
 made-as rules untyped k s = by (ltb (length s) 8)
   where
     by : (short : Bool)
-        → framedBy (cond short H.NeedMore (endOf (boundsOf k) 0 (length s) (signedOf 4 (numberAt 4 s 0)))) s (λ f. leftOf rules (k .body) (k .message) f 8)
+        → framedBy (cond short H.NeedMore (endOf (lineOf k) 0 (length s) (signedOf 4 (numberAt 4 s 0)))) s (λ f. leftOf rules (k .body) (k .message) f 8)
         ≡ decodeBy rules s (cond short more (lengthBy k 0 8 s (signedOf 4 (numberAt 4 s 0))))
     by true = refl
     by false = length-as rules k 0 8 s _
@@ -122,26 +119,26 @@ made-as rules bare k s = by (eqb (length s) 0) refl
 
 -- ---- what the code knows behind the envelope
 
-module _ (rules : Rules) (e : Envelope) (b : Bounds) (xs : List Field) (make : Each Slot xs → Message) (s : List ℕ) {h : Header} (is : h ≡ endIn e b s) where
+module _ (rules : Rules) (e : Envelope) (l : Line) (xs : List Field) (make : Each Slot xs → Message) (s : List ℕ) {h : Header} (is : h ≡ endIn e l s) where
   -- a whole frame: its body is left
-  pub begin-made : {end : ℕ} → h ≡ H.Frame end → Left rules (take end s) (decodeMade rules e b xs make s) xs make (bodyStart e)
+  pub begin-made : {end : ℕ} → h ≡ H.Frame end → Left rules (take end s) (decodeMade rules e l xs make s) xs make (bodyStart e)
   begin-made f = record { is = rw (← is, f) refl }
 
   -- none
-  pub none-made : OneOf (1 ∷ 2 ∷ []) (tagOf HT.the-type h) → unframedOf h ≡ decodeMade rules e b xs make s
+  pub none-made : OneOf (1 ∷ 2 ∷ []) (tagOf HT.the-type h) → unframedOf h ≡ decodeMade rules e l xs make s
   none-made o = by h o is
     where
-      by : (h : Header) → OneOf (1 ∷ 2 ∷ []) (tagOf HT.the-type h) → h ≡ endIn e b s → unframedOf h ≡ decodeMade rules e b xs make s
+      by : (h : Header) → OneOf (1 ∷ 2 ∷ []) (tagOf HT.the-type h) → h ≡ endIn e l s → unframedOf h ≡ decodeMade rules e l xs make s
       by (H.Frame end) o is = absurd (miss (1 ∷ 2 ∷ []) 0 tt o)
       by H.NeedMore o is = rw (← is) refl
       by (H.Refused number place) o is = rw (← is) refl
 
-module _ (rules : Rules) (e : Envelope) (k : Kind) (s : List ℕ) {h : Header} (is : h ≡ endIn e (boundsOf k) s) where
+module _ (rules : Rules) (e : Envelope) (k : Kind) (s : List ℕ) {h : Header} (is : h ≡ endIn e (lineOf k) s) where
   pub begin : {end : ℕ} → h ≡ H.Frame end → Left rules (take end s) (decodeAs rules e k s) (k .body) (k .message) (bodyStart e)
-  begin f = record { is = begin-made rules e (boundsOf k) (k .body) (k .message) s is f .is ∙ made-as rules e k s }
+  begin f = record { is = begin-made rules e (lineOf k) (k .body) (k .message) s is f .is ∙ made-as rules e k s }
 
   pub none : OneOf (1 ∷ 2 ∷ []) (tagOf HT.the-type h) → unframedOf h ≡ decodeAs rules e k s
-  none o = none-made rules e (boundsOf k) (k .body) (k .message) s is o ∙ made-as rules e k s
+  none o = none-made rules e (lineOf k) (k .body) (k .message) s is o ∙ made-as rules e k s
 
 -- a whole frame ends within the buffer
 abbrev Within : ℕ → Header → Type 0
@@ -149,10 +146,10 @@ Within n (H.Frame end) = end ≤ n
 Within n H.NeedMore = Unit {0}
 Within n (H.Refused number place) = Unit {0}
 
-within-end : (b : Bounds) (p : ℕ) (s : List ℕ) (z : ℤ) → Within (length s) (endOf b p (length s) z)
+within-end : (l : Line) (p : ℕ) (s : List ℕ) (z : ℤ) → Within (length s) (endOf l p (length s) z)
 unfolding endOf
-within-end b p s (negsuc n) = tt
-within-end b p s (pos n) = by (ltb n (b .0)) (ltb (b .1) n) (ltb (length s) (p + n)) refl
+within-end l p s (negsuc n) = tt
+within-end l p s (pos n) = by (ltb n (l .2)) (ltb (l .3) n) (ltb (length s) (p + n)) refl
   where
     by : (small above short : Bool) → ltb (length s) (p + n) ≡ short → Within (length s) (cond small (H.Refused lengthTooSmall p) (cond above (H.Refused lengthAboveLimit p) (cond short H.NeedMore (H.Frame (p + n)))))
     by true above short h = tt
@@ -164,17 +161,17 @@ either : (t : Bool) (n : ℕ) (h : Header) → Within n h → Within n (cond t H
 either true n h w = tt
 either false n h w = w
 
-within : (e : Envelope) (b : Bounds) (s : List ℕ) → Within (length s) (endIn e b s)
+within : (e : Envelope) (l : Line) (s : List ℕ) → Within (length s) (endIn e l s)
 unfolding endIn
-within typed b s = either (ltb (length s) 5) (length s) _ (within-end b 1 s _)
-within untyped b s = either (ltb (length s) 8) (length s) _ (within-end b 0 s _)
-within bare b s = by (eqb (length s) 0) refl
+within typed l s = either (ltb (length s) 5) (length s) _ (within-end l 1 s _)
+within untyped l s = either (ltb (length s) 8) (length s) _ (within-end l 0 s _)
+within bare l s = by (eqb (length s) 0) refl
   where
     by : (none : Bool) → eqb (length s) 0 ≡ none → Within (length s) (cond none H.NeedMore (H.Frame 1))
     by true h = tt
     by false h = let some : length s ≡ 0 → ⊥ = eqb-false _ _ h in omega arith
 
-pub ends : (e : Envelope) (b : Bounds) (s : List ℕ) {h : Header} {end : ℕ} → h ≡ endIn e b s → h ≡ H.Frame end → length (take end s) ≡ end
-ends e b s {h} {end} is f =
-    let w : Within (length s) h = rw is (within e b s) in
+pub ends : (e : Envelope) (l : Line) (s : List ℕ) {h : Header} {end : ℕ} → h ≡ endIn e l s → h ≡ H.Frame end → length (take end s) ≡ end
+ends e l s {h} {end} is f =
+    let w : Within (length s) h = rw is (within e l s) in
     length-take-le end s (rw f at w)

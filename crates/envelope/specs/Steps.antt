@@ -9,7 +9,7 @@ use Rattle.protocol.specs.declared.Decoded.the-variants as D
 use Rattle.protocol.specs.declared.Decoded.{Decoded}
 use Rattle.protocol.specs.declared.Message.{Message}
 use Rattle.protocol.specs.declared.Rules.{Rules}
-use Rattle.protocol.specs.declared.kinds.Bounds.{Bounds}
+use Rattle.protocol.specs.declared.kinds.Line.{Line}
 use Rattle.protocol.specs.Bytes.{numberAt, signedOf}
 use Rattle.protocol.specs.Decode.{closed, decodedBy}
 use Rattle.protocol.specs.Each.{Each}
@@ -26,18 +26,18 @@ use Rattle.envelope.specs.declared.Header.{Header}
 -- ---- the envelope
 
 -- the length's checks. The length word stands at p, and there are `have` bytes
-unfoldable pub endOf : Bounds → ℕ → ℕ → ℤ → Header
-endOf b p have (negsuc n) = H.Refused lengthTooSmall p
-endOf b p have (pos n) =
-    cond (ltb n (b .0)) (H.Refused lengthTooSmall p)
-    (cond (ltb (b .1) n) (H.Refused lengthAboveLimit p)
+unfoldable pub endOf : Line → ℕ → ℕ → ℤ → Header
+endOf l p have (negsuc n) = H.Refused lengthTooSmall p
+endOf l p have (pos n) =
+    cond (ltb n (l .2)) (H.Refused lengthTooSmall p)
+    (cond (ltb (l .3) n) (H.Refused lengthAboveLimit p)
     (cond (ltb have (p + n)) H.NeedMore (H.Frame (p + n))))
 
--- where a frame of a kind with these bounds ends
-unfoldable pub endIn : Envelope → Bounds → List ℕ → Header
-endIn typed b s = cond (ltb (length s) 5) H.NeedMore (endOf b 1 (length s) (signedOf 4 (numberAt 4 s 1)))
-endIn untyped b s = cond (ltb (length s) 8) H.NeedMore (endOf b 0 (length s) (signedOf 4 (numberAt 4 s 0)))
-endIn bare b s = cond (eqb (length s) 0) H.NeedMore (H.Frame 1)
+-- where a frame of a kind with this line ends
+unfoldable pub endIn : Envelope → Line → List ℕ → Header
+endIn typed l s = cond (ltb (length s) 5) H.NeedMore (endOf l 1 (length s) (signedOf 4 (numberAt 4 s 1)))
+endIn untyped l s = cond (ltb (length s) 8) H.NeedMore (endOf l 0 (length s) (signedOf 4 (numberAt 4 s 0)))
+endIn bare l s = cond (eqb (length s) 0) H.NeedMore (H.Frame 1)
 
 abbrev pub unframedOf : Header → Decoded
 unframedOf (H.Frame end) = D.NeedMore
@@ -63,6 +63,6 @@ framedBy (H.Frame end) s body = body (take end s)
 framedBy H.NeedMore s body = D.NeedMore
 framedBy (H.Refused number place) s body = D.Refused number place
 
--- a buffer of a kind with these bounds and this body, and what is made of its slots: for a body that several kinds have
-abbrev pub decodeMade : Rules → Envelope → Bounds → (xs : List Field) → (Each Slot xs → Message) → List ℕ → Decoded
-decodeMade rules e b xs make s = framedBy (endIn e b s) s (λ f. leftOf rules xs make f (bodyStart e))
+-- a buffer of a kind with this line and this body, and what is made of its slots: for a body that several kinds have
+abbrev pub decodeMade : Rules → Envelope → Line → (xs : List Field) → (Each Slot xs → Message) → List ℕ → Decoded
+decodeMade rules e l xs make s = framedBy (endIn e l s) s (λ f. leftOf rules xs make f (bodyStart e))

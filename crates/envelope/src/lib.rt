@@ -1,4 +1,4 @@
-// What stands around a body, in the order of docs/FORMAT.md 3: the length, checked by the kind's bounds, before it, and nothing behind it.
+// What stands around a body, in the order of docs/FORMAT.md 3: the length, checked by the kind's line, before it, and nothing behind it.
 // Inner: for crates of this library alone (docs/INNER.md).
 ghost use mathlib.Core.List.{[]};
 ghost use mathlib.Core.Path.{_≡_};
@@ -13,8 +13,8 @@ use codec::Word;
 use protocol::Decoded;
 use protocol::Message;
 use protocol::Rules;
-use protocol::kinds::Bounds;
 use protocol::kinds::LONGEST;
+use protocol::kinds::Line;
 use protocol::refusal::BYTES_LEFT;
 use protocol::refusal::LENGTH_ABOVE_LIMIT;
 use protocol::refusal::LENGTH_TOO_SMALL;
@@ -32,17 +32,17 @@ pub enum Header {
 }
 
 // The length's checks. The length word stands at `place`, and counts itself and all that follows it; `have` bytes are there.
-fn frame_end(length: u32, bounds: Bounds, place: u8, have: usize) -> Header
-    ensures { λ r. ⌜ r ≡ endOf bounds place have (signedOf 4 «length») ⌝ }
+fn frame_end(length: u32, line: Line, place: u8, have: usize) -> Header
+    ensures { λ r. ⌜ r ≡ endOf line place have (signedOf 4 «length») ⌝ }
 {
     let place = place as usize;
     if LONGEST < length {
         return Header::Refused(LENGTH_TOO_SMALL, place);
     }
-    if length < bounds.0 {
+    if length < line.2 {
         return Header::Refused(LENGTH_TOO_SMALL, place);
     }
-    if bounds.1 < length {
+    if line.3 < length {
         return Header::Refused(LENGTH_ABOVE_LIMIT, place);
     }
     let end = place + (length as usize);
@@ -53,19 +53,19 @@ fn frame_end(length: u32, bounds: Bounds, place: u8, have: usize) -> Header
 }
 
 // A frame with a type byte, then its length.
-pub fn typed(buf: &[u8], bounds: Bounds) -> Header
-    ensures { λ r. ⌜ r ≡ endIn K.typed bounds (now (buf .entry)) ⌝ }
+pub fn typed(buf: &[u8], line: Line) -> Header
+    ensures { λ r. ⌜ r ≡ endIn K.typed line (now (buf .entry)) ⌝ }
 {
     let c = Cursor { at: 1 };
     let Word::Is(length, _) = c.word(&*buf) else {
         return Header::NeedMore;
     };
-    frame_end(length, bounds, 1, buf.len())
+    frame_end(length, line, 1, buf.len())
 }
 
 // A frame with its length, then a code.
-pub fn untyped(buf: &[u8], bounds: Bounds) -> Header
-    ensures { λ r. ⌜ r ≡ endIn K.untyped bounds (now (buf .entry)) ⌝ }
+pub fn untyped(buf: &[u8], line: Line) -> Header
+    ensures { λ r. ⌜ r ≡ endIn K.untyped line (now (buf .entry)) ⌝ }
 {
     if buf.len() < UNTYPED_BODY {
         return Header::NeedMore;
@@ -74,7 +74,7 @@ pub fn untyped(buf: &[u8], bounds: Bounds) -> Header
     let Word::Is(length, _) = c.word(&*buf) else {
         return Header::NeedMore;
     };
-    frame_end(length, bounds, 0, buf.len())
+    frame_end(length, line, 0, buf.len())
 }
 
 // What is answered where no whole frame is there. (Nobody asks it of a whole one, of which nothing more is known.)
@@ -110,10 +110,10 @@ pub fn refused(listed: Listed) -> Decoded
 }
 
 // A kind with no field.
-pub fn fieldless(rules: Rules, buf: &[u8], bounds: Bounds, message: Message) -> Decoded
-    ensures { λ r. ⌜ r ≡ decodeMade rules K.typed bounds [] (λ _. message) (now (buf .entry)) ⌝ }
+pub fn fieldless(rules: Rules, buf: &[u8], line: Line, message: Message) -> Decoded
+    ensures { λ r. ⌜ r ≡ decodeMade rules K.typed line [] (λ _. message) (now (buf .entry)) ⌝ }
 {
-    let header = typed(&*buf, bounds);
+    let header = typed(&*buf, line);
     let Header::Frame(end) = header else {
         return unframed(header);
     };

@@ -26,7 +26,7 @@ use protocol::copy::CopyFail;
 use protocol::copy::CopyInResponse;
 use protocol::copy::CopyOutResponse;
 use protocol::kinds;
-use protocol::kinds::Bounds;
+use protocol::kinds::Line;
 use protocol::refusal::CUT;
 
 pub fn copy_data(rules: Rules, buf: &[u8]) -> Decoded
@@ -91,10 +91,10 @@ fn copy_message(direction: Direction, format: i8, column_formats: List) -> Messa
 }
 
 // The body of the three responses.
-fn copy_response(rules: Rules, buf: &[u8], bounds: Bounds, direction: Direction) -> Decoded
-    ensures { λ r. ⌜ r ≡ decodeMade rules K.typed bounds copyFields (copyMessage direction) (now (buf .entry)) ⌝ }
+fn copy_response(rules: Rules, buf: &[u8], line: Line, direction: Direction) -> Decoded
+    ensures { λ r. ⌜ r ≡ decodeMade rules K.typed line copyFields (copyMessage direction) (now (buf .entry)) ⌝ }
 {
-    let header = typed(&*buf, bounds);
+    let header = typed(&*buf, line);
     let Header::Frame(end) = header else {
         return unframed(header);
     };

@@ -28,7 +28,7 @@ use protocol::extendedquery::Execute;
 use protocol::extendedquery::Parse;
 use protocol::extendedquery::is_target;
 use protocol::kinds;
-use protocol::kinds::Bounds;
+use protocol::kinds::Line;
 use protocol::refusal::CUT;
 use protocol::refusal::NOT_ALLOWED;
 
@@ -81,10 +81,10 @@ fn aim_message(act: Act, target_type: u8, name: Span) -> Message
 }
 
 // The body of Close and Describe.
-fn aim(rules: Rules, buf: &[u8], bounds: Bounds, act: Act) -> Decoded
-    ensures { λ r. ⌜ r ≡ decodeMade rules K.typed bounds aimFields (aimMessage act) (now (buf .entry)) ⌝ }
+fn aim(rules: Rules, buf: &[u8], line: Line, act: Act) -> Decoded
+    ensures { λ r. ⌜ r ≡ decodeMade rules K.typed line aimFields (aimMessage act) (now (buf .entry)) ⌝ }
 {
-    let header = typed(&*buf, bounds);
+    let header = typed(&*buf, line);
     let Header::Frame(end) = header else {
         return unframed(header);
     };

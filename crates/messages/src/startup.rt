@@ -23,7 +23,7 @@ use protocol::Decoded;
 use protocol::Message;
 use protocol::Rules;
 use protocol::kinds;
-use protocol::kinds::Bounds;
+use protocol::kinds::Line;
 use protocol::refusal::CUT;
 use protocol::startup::BackendKeyData;
 use protocol::startup::ParameterStatus;
@@ -46,10 +46,10 @@ pub fn startup(rules: Rules, buf: &[u8]) -> Decoded
 }
 
 // A request that is its length and its code.
-fn request(rules: Rules, buf: &[u8], bounds: Bounds, message: Message) -> Decoded
-    ensures { λ r. ⌜ r ≡ decodeMade rules K.untyped bounds [] (λ _. message) (now (buf .entry)) ⌝ }
+fn request(rules: Rules, buf: &[u8], line: Line, message: Message) -> Decoded
+    ensures { λ r. ⌜ r ≡ decodeMade rules K.untyped line [] (λ _. message) (now (buf .entry)) ⌝ }
 {
-    let header = untyped(&*buf, bounds);
+    let header = untyped(&*buf, line);
     let Header::Frame(end) = header else {
         return unframed(header);
     };

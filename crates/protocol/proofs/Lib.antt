@@ -6,4 +6,5 @@ pub mod Ended
 pub mod Framed
 pub mod Open
 pub mod Views
+pub mod Lines
 pub mod OneByOne

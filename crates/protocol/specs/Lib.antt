@@ -7,6 +7,7 @@ pub mod Reading
 pub mod Records
 pub mod Kinds
 pub mod Views
+pub mod Lines
 pub mod WellFormed
 pub mod Decode
 pub mod Elements

@@ -1,4 +1,5 @@
 // The request to cancel, as in cancel.rs. The secret key has four bytes.
+use crate::kinds;
 
 pub struct CancelRequest {
     pub pid: i32,
@@ -6,5 +7,5 @@ pub struct CancelRequest {
 }
 
 impl CancelRequest {
-    pub const CANCEL_REQUEST_CODE: u32 = 80877102;
+    pub const CANCEL_REQUEST_CODE: u32 = kinds::CANCEL_REQUEST.1;
 }

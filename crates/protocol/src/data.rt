@@ -1,14 +1,15 @@
 // The messages that describe and carry rows, as in data.rs.
 use crate::List;
 use crate::Span;
+use crate::kinds;
 
-pub const MESSAGE_TYPE_BYTE_ROW_DESCRITION: u8 = b'T';
+pub const MESSAGE_TYPE_BYTE_ROW_DESCRITION: u8 = kinds::ROW_DESCRIPTION.1 as u8;
 
-pub const MESSAGE_TYPE_BYTE_PARAMETER_DESCRITION: u8 = b't';
+pub const MESSAGE_TYPE_BYTE_PARAMETER_DESCRITION: u8 = kinds::PARAMETER_DESCRIPTION.1 as u8;
 
-pub const MESSAGE_TYPE_BYTE_DATA_ROW: u8 = b'D';
+pub const MESSAGE_TYPE_BYTE_DATA_ROW: u8 = kinds::DATA_ROW.1 as u8;
 
-pub const MESSAGE_TYPE_BYTE_NO_DATA: u8 = b'n';
+pub const MESSAGE_TYPE_BYTE_NO_DATA: u8 = kinds::NO_DATA.1 as u8;
 
 pub const FORMAT_CODE_TEXT: i16 = 0;
 

@@ -4,28 +4,29 @@ ghost use Rattle.protocol.specs.Bytes.{isOneOf};
 ghost use Rattle.protocol.specs.Kinds.{targets};
 use crate::List;
 use crate::Span;
+use crate::kinds;
 
-pub const MESSAGE_TYPE_BYTE_PARSE: u8 = b'P';
+pub const MESSAGE_TYPE_BYTE_PARSE: u8 = kinds::PARSE.1 as u8;
 
-pub const MESSAGE_TYPE_BYTE_PARSE_COMPLETE: u8 = b'1';
+pub const MESSAGE_TYPE_BYTE_PARSE_COMPLETE: u8 = kinds::PARSE_COMPLETE.1 as u8;
 
-pub const MESSAGE_TYPE_BYTE_CLOSE: u8 = b'C';
+pub const MESSAGE_TYPE_BYTE_CLOSE: u8 = kinds::CLOSE.1 as u8;
 
-pub const MESSAGE_TYPE_BYTE_CLOSE_COMPLETE: u8 = b'3';
+pub const MESSAGE_TYPE_BYTE_CLOSE_COMPLETE: u8 = kinds::CLOSE_COMPLETE.1 as u8;
 
-pub const MESSAGE_TYPE_BYTE_BIND: u8 = b'B';
+pub const MESSAGE_TYPE_BYTE_BIND: u8 = kinds::BIND.1 as u8;
 
-pub const MESSAGE_TYPE_BYTE_BIND_COMPLETE: u8 = b'2';
+pub const MESSAGE_TYPE_BYTE_BIND_COMPLETE: u8 = kinds::BIND_COMPLETE.1 as u8;
 
-pub const MESSAGE_TYPE_BYTE_DESCRIBE: u8 = b'D';
+pub const MESSAGE_TYPE_BYTE_DESCRIBE: u8 = kinds::DESCRIBE.1 as u8;
 
-pub const MESSAGE_TYPE_BYTE_EXECUTE: u8 = b'E';
+pub const MESSAGE_TYPE_BYTE_EXECUTE: u8 = kinds::EXECUTE.1 as u8;
 
-pub const MESSAGE_TYPE_BYTE_FLUSH: u8 = b'H';
+pub const MESSAGE_TYPE_BYTE_FLUSH: u8 = kinds::FLUSH.1 as u8;
 
-pub const MESSAGE_TYPE_BYTE_SYNC: u8 = b'S';
+pub const MESSAGE_TYPE_BYTE_SYNC: u8 = kinds::SYNC.1 as u8;
 
-pub const MESSAGE_TYPE_BYTE_PORTAL_SUSPENDED: u8 = b's';
+pub const MESSAGE_TYPE_BYTE_PORTAL_SUSPENDED: u8 = kinds::PORTAL_SUSPENDED.1 as u8;
 
 // What Close and Describe aim at: a prepared statement or a portal.
 pub const TARGET_TYPE_BYTE_STATEMENT: u8 = b'S';

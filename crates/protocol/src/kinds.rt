@@ -1,7 +1,12 @@
-// The smallest length and the limit of each kind, in the order of docs/FORMAT.md 4. No other code writes them: it takes these names, and a contract
-// those of specs/Kinds.
+// The tables of kinds, a line for each kind, in the order of docs/FORMAT.md 4: to be held against the paper line by line. No other code says a kind's name,
+// type byte, code, smallest length or limit: it takes these lines, and a contract those of specs/Kinds.
 // Inner: for crates of this library alone (docs/INNER.md).
+ghost use mathlib.Core.Path.{_≡_};
+ghost use Rattle.protocol.specs.Kinds as K;
+ghost use Rattle.protocol.specs.Lines.{lineAt, lineIn, linesOf};
+ghost use Rattle.protocol.specs.Rules.{rulesOf};
 
+// The two limits. The papers mark the kinds that have the first with an L.
 pub const LARGE: u32 = 1048576;
 
 pub const SMALL: u32 = 8192;
@@ -15,78 +20,222 @@ pub const LONGEST: u32 = 2147483647;
 // The bytes of the longest typed frame of all: a type byte is not counted by the length.
 pub const LARGE_FRAME: usize = LARGE as usize + 1;
 
-// A kind's smallest length, and its limit.
-pub struct Bounds(pub u32, pub u32);
+// A line: the kind's name, filled up with spaces; its type byte, as b'P', or its code; its smallest length; its limit; and its number at the boundary for
+// other languages, which is ours and on no paper.
+pub struct Line(pub [u8; 20], pub u32, pub u32, pub u32, pub u8);
 
-// ---- frontend, mode 0
-pub const PARSE: Bounds = Bounds(8, LARGE);
+// ---- from the frontend, mode 0
+pub const PARSE: Line = Line(*b"Parse               ", b'P' as u32, 8, LARGE, 1);
 
-pub const BIND: Bounds = Bounds(12, LARGE);
+pub const BIND: Line = Line(*b"Bind                ", b'B' as u32, 12, LARGE, 2);
 
-pub const CLOSE: Bounds = Bounds(6, SMALL);
+pub const CLOSE: Line = Line(*b"Close               ", b'C' as u32, 6, SMALL, 3);
 
-pub const DESCRIBE: Bounds = Bounds(6, SMALL);
+pub const DESCRIBE: Line = Line(*b"Describe            ", b'D' as u32, 6, SMALL, 4);
 
-pub const EXECUTE: Bounds = Bounds(9, SMALL);
+pub const EXECUTE: Line = Line(*b"Execute             ", b'E' as u32, 9, SMALL, 5);
 
-pub const FLUSH: Bounds = Bounds(4, SMALL);
+pub const FLUSH: Line = Line(*b"Flush               ", b'H' as u32, 4, SMALL, 6);
 
-pub const SYNC: Bounds = Bounds(4, SMALL);
+pub const SYNC: Line = Line(*b"Sync                ", b'S' as u32, 4, SMALL, 7);
 
-pub const COPY_DONE: Bounds = Bounds(4, SMALL);
+pub const COPY_DONE: Line = Line(*b"CopyDone            ", b'c' as u32, 4, SMALL, 8);
 
-pub const COPY_DATA: Bounds = Bounds(4, LARGE);
+pub const COPY_DATA: Line = Line(*b"CopyData            ", b'd' as u32, 4, LARGE, 9);
 
-pub const COPY_FAIL: Bounds = Bounds(5, SMALL);
+pub const COPY_FAIL: Line = Line(*b"CopyFail            ", b'f' as u32, 5, SMALL, 10);
 
-pub const QUERY: Bounds = Bounds(5, SMALL);
+pub const QUERY: Line = Line(*b"Query               ", b'Q' as u32, 5, SMALL, 34);
 
-pub const TERMINATE: Bounds = Bounds(4, SMALL);
+pub const TERMINATE: Line = Line(*b"Terminate           ", b'X' as u32, 4, SMALL, 35);
 
-// ---- backend, mode 1; CopyDone and CopyData as above
-pub const PARSE_COMPLETE: Bounds = Bounds(4, SMALL);
+// ---- from the backend, mode 1; CopyDone and CopyData as above
+pub const PARSE_COMPLETE: Line = Line(*b"ParseComplete       ", b'1' as u32, 4, SMALL, 11);
 
-pub const BIND_COMPLETE: Bounds = Bounds(4, SMALL);
+pub const BIND_COMPLETE: Line = Line(*b"BindComplete        ", b'2' as u32, 4, SMALL, 12);
 
-pub const CLOSE_COMPLETE: Bounds = Bounds(4, SMALL);
+pub const CLOSE_COMPLETE: Line = Line(*b"CloseComplete       ", b'3' as u32, 4, SMALL, 13);
 
-pub const PORTAL_SUSPENDED: Bounds = Bounds(4, SMALL);
+pub const PORTAL_SUSPENDED: Line = Line(*b"PortalSuspended     ", b's' as u32, 4, SMALL, 14);
 
-pub const NO_DATA: Bounds = Bounds(4, SMALL);
+pub const NO_DATA: Line = Line(*b"NoData              ", b'n' as u32, 4, SMALL, 15);
 
-pub const EMPTY_QUERY_RESPONSE: Bounds = Bounds(4, SMALL);
+pub const EMPTY_QUERY_RESPONSE: Line = Line(*b"EmptyQueryResponse  ", b'I' as u32, 4, SMALL, 16);
 
-pub const ROW_DESCRIPTION: Bounds = Bounds(6, LARGE);
+pub const ROW_DESCRIPTION: Line = Line(*b"RowDescription      ", b'T' as u32, 6, LARGE, 17);
 
-pub const PARAMETER_DESCRIPTION: Bounds = Bounds(6, LARGE);
+pub const PARAMETER_DESCRIPTION: Line = Line(*b"ParameterDescription", b't' as u32, 6, LARGE, 18);
 
-pub const DATA_ROW: Bounds = Bounds(6, LARGE);
+pub const DATA_ROW: Line = Line(*b"DataRow             ", b'D' as u32, 6, LARGE, 19);
 
-pub const COMMAND_COMPLETE: Bounds = Bounds(5, SMALL);
+pub const COMMAND_COMPLETE: Line = Line(*b"CommandComplete     ", b'C' as u32, 5, SMALL, 20);
 
-pub const READY_FOR_QUERY: Bounds = Bounds(5, SMALL);
+pub const READY_FOR_QUERY: Line = Line(*b"ReadyForQuery       ", b'Z' as u32, 5, SMALL, 21);
 
-pub const ERROR_RESPONSE: Bounds = Bounds(5, LARGE);
+pub const ERROR_RESPONSE: Line = Line(*b"ErrorResponse       ", b'E' as u32, 5, LARGE, 22);
 
-pub const NOTICE_RESPONSE: Bounds = Bounds(5, LARGE);
+pub const NOTICE_RESPONSE: Line = Line(*b"NoticeResponse      ", b'N' as u32, 5, LARGE, 23);
 
-pub const COPY_IN_RESPONSE: Bounds = Bounds(7, SMALL);
+pub const COPY_IN_RESPONSE: Line = Line(*b"CopyInResponse      ", b'G' as u32, 7, SMALL, 24);
 
-pub const COPY_OUT_RESPONSE: Bounds = Bounds(7, SMALL);
+pub const COPY_OUT_RESPONSE: Line = Line(*b"CopyOutResponse     ", b'H' as u32, 7, SMALL, 25);
 
-pub const COPY_BOTH_RESPONSE: Bounds = Bounds(7, SMALL);
+pub const COPY_BOTH_RESPONSE: Line = Line(*b"CopyBothResponse    ", b'W' as u32, 7, SMALL, 26);
 
-pub const NOTIFICATION_RESPONSE: Bounds = Bounds(10, LARGE);
+pub const NOTIFICATION_RESPONSE: Line = Line(*b"NotificationResponse", b'A' as u32, 10, LARGE, 27);
 
-pub const PARAMETER_STATUS: Bounds = Bounds(6, SMALL);
+pub const PARAMETER_STATUS: Line = Line(*b"ParameterStatus     ", b'S' as u32, 6, SMALL, 36);
 
-pub const BACKEND_KEY_DATA: Bounds = Bounds(12, SMALL);
+pub const BACKEND_KEY_DATA: Line = Line(*b"BackendKeyData      ", b'K' as u32, 12, SMALL, 37);
 
-// ---- first packet, mode 5; the cancel request is mode 2 too
-pub const STARTUP: Bounds = Bounds(9, SMALL);
+// ---- a client's first packet, mode 5; the cancel request is mode 2's too
+pub const STARTUP: Line = Line(*b"Startup             ", 196608, 9, SMALL, 31);
 
-pub const SSL_REQUEST: Bounds = Bounds(8, SMALL);
+pub const SSL_REQUEST: Line = Line(*b"SslRequest          ", 80877103, 8, SMALL, 32);
 
-pub const GSS_ENC_REQUEST: Bounds = Bounds(8, SMALL);
+pub const GSS_ENC_REQUEST: Line = Line(*b"GssEncRequest       ", 80877104, 8, SMALL, 33);
 
-pub const CANCEL_REQUEST: Bounds = Bounds(16, SMALL);
+pub const CANCEL_REQUEST: Line = Line(*b"CancelRequest       ", 80877102, 16, SMALL, 28);
+
+// ---- the answers to a request for TLS and for GSS encryption, modes 3 and 4: one byte, which is all of the frame
+pub const SSL_ACCEPT: Line = Line(*b"SslResponse         ", b'S' as u32, 1, 1, 29);
+
+pub const SSL_REFUSE: Line = Line(*b"SslResponse         ", b'N' as u32, 1, 1, 29);
+
+pub const GSS_ACCEPT: Line = Line(*b"GssEncResponse      ", b'G' as u32, 1, 1, 30);
+
+pub const GSS_REFUSE: Line = Line(*b"GssEncResponse      ", b'N' as u32, 1, 1, 30);
+
+// ---- the lines of each mode, in the papers' order
+pub const FRONTEND: [Line; 12] = [
+    PARSE,
+    BIND,
+    CLOSE,
+    DESCRIBE,
+    EXECUTE,
+    FLUSH,
+    SYNC,
+    COPY_DONE,
+    COPY_DATA,
+    COPY_FAIL,
+    QUERY,
+    TERMINATE,
+];
+
+pub const BACKEND: [Line; 21] = [
+    PARSE_COMPLETE,
+    BIND_COMPLETE,
+    CLOSE_COMPLETE,
+    PORTAL_SUSPENDED,
+    NO_DATA,
+    EMPTY_QUERY_RESPONSE,
+    COPY_DONE,
+    ROW_DESCRIPTION,
+    PARAMETER_DESCRIPTION,
+    DATA_ROW,
+    COMMAND_COMPLETE,
+    READY_FOR_QUERY,
+    ERROR_RESPONSE,
+    NOTICE_RESPONSE,
+    COPY_IN_RESPONSE,
+    COPY_OUT_RESPONSE,
+    COPY_BOTH_RESPONSE,
+    NOTIFICATION_RESPONSE,
+    COPY_DATA,
+    PARAMETER_STATUS,
+    BACKEND_KEY_DATA,
+];
+
+pub const CANCEL: [Line; 1] = [CANCEL_REQUEST];
+
+pub const TLS_ANSWER: [Line; 2] = [SSL_ACCEPT, SSL_REFUSE];
+
+pub const GSS_ANSWER: [Line; 2] = [GSS_ACCEPT, GSS_REFUSE];
+
+pub const FIRST_PACKET: [Line; 4] = [STARTUP, SSL_REQUEST, GSS_ENC_REQUEST, CANCEL_REQUEST];
+
+// ---- a line by its place
+
+// What stands behind a table's last line: a line of no kind, since no kind has the number 0.
+pub const NO_KIND: Line = Line([b' '; 20], 0, 0, 0, 0);
+
+fn frontend(index: usize) -> Line
+    ensures { λ r. ⌜ r ≡ lineIn (linesOf K.frontend) index ⌝ }
+{
+    let table = FRONTEND;
+    if index < table.len() {
+        table[index]
+    } else {
+        NO_KIND
+    }
+}
+
+fn backend(index: usize) -> Line
+    ensures { λ r. ⌜ r ≡ lineIn (linesOf K.backend) index ⌝ }
+{
+    let table = BACKEND;
+    if index < table.len() {
+        table[index]
+    } else {
+        NO_KIND
+    }
+}
+
+fn cancel(index: usize) -> Line
+    ensures { λ r. ⌜ r ≡ lineIn (linesOf K.cancel) index ⌝ }
+{
+    let table = CANCEL;
+    if index < table.len() {
+        table[index]
+    } else {
+        NO_KIND
+    }
+}
+
+fn tls_answer(index: usize) -> Line
+    ensures { λ r. ⌜ r ≡ lineIn (linesOf K.tlsAnswer) index ⌝ }
+{
+    let table = TLS_ANSWER;
+    if index < table.len() {
+        table[index]
+    } else {
+        NO_KIND
+    }
+}
+
+fn gss_answer(index: usize) -> Line
+    ensures { λ r. ⌜ r ≡ lineIn (linesOf K.gssAnswer) index ⌝ }
+{
+    let table = GSS_ANSWER;
+    if index < table.len() {
+        table[index]
+    } else {
+        NO_KIND
+    }
+}
+
+fn first_packet(index: usize) -> Line
+    ensures { λ r. ⌜ r ≡ lineIn (linesOf K.firstPacket) index ⌝ }
+{
+    let table = FIRST_PACKET;
+    if index < table.len() {
+        table[index]
+    } else {
+        NO_KIND
+    }
+}
+
+// The line at a place of a mode's table, counted from 0.
+pub fn line_at(mode: u8, index: usize) -> Line
+    ensures { λ r. ⌜ r ≡ lineAt (rulesOf mode) index ⌝ }
+{
+    match mode {
+        0 => frontend(index),
+        1 => backend(index),
+        2 => cancel(index),
+        3 => tls_answer(index),
+        4 => gss_answer(index),
+        5 => first_packet(index),
+        _ => NO_KIND,
+    }
+}

@@ -4,18 +4,19 @@ ghost use Rattle.protocol.specs.Bytes.{isOneOf};
 ghost use Rattle.protocol.specs.Kinds.{statuses};
 use crate::List;
 use crate::Span;
+use crate::kinds;
 
-pub const MESSAGE_TYPE_BYTE_COMMAND_COMPLETE: u8 = b'C';
+pub const MESSAGE_TYPE_BYTE_COMMAND_COMPLETE: u8 = kinds::COMMAND_COMPLETE.1 as u8;
 
-pub const MESSAGE_TYPE_BYTE_EMPTY_QUERY_RESPONSE: u8 = b'I';
+pub const MESSAGE_TYPE_BYTE_EMPTY_QUERY_RESPONSE: u8 = kinds::EMPTY_QUERY_RESPONSE.1 as u8;
 
-pub const MESSAGE_TYPE_BYTE_READY_FOR_QUERY: u8 = b'Z';
+pub const MESSAGE_TYPE_BYTE_READY_FOR_QUERY: u8 = kinds::READY_FOR_QUERY.1 as u8;
 
-pub const MESSAGE_TYPE_BYTE_ERROR_RESPONSE: u8 = b'E';
+pub const MESSAGE_TYPE_BYTE_ERROR_RESPONSE: u8 = kinds::ERROR_RESPONSE.1 as u8;
 
-pub const MESSAGE_TYPE_BYTE_NOTICE_RESPONSE: u8 = b'N';
+pub const MESSAGE_TYPE_BYTE_NOTICE_RESPONSE: u8 = kinds::NOTICE_RESPONSE.1 as u8;
 
-pub const MESSAGE_TYPE_BYTE_NOTIFICATION_RESPONSE: u8 = b'A';
+pub const MESSAGE_TYPE_BYTE_NOTIFICATION_RESPONSE: u8 = kinds::NOTIFICATION_RESPONSE.1 as u8;
 
 // The three states of a transaction.
 pub const READY_STATUS_IDLE: u8 = b'I';
@@ -64,9 +65,9 @@ pub enum SslResponse {
 }
 
 impl SslResponse {
-    pub const BYTE_ACCEPT: u8 = b'S';
+    pub const BYTE_ACCEPT: u8 = kinds::SSL_ACCEPT.1 as u8;
 
-    pub const BYTE_REFUSE: u8 = b'N';
+    pub const BYTE_REFUSE: u8 = kinds::SSL_REFUSE.1 as u8;
 
     pub const MESSAGE_LENGTH: usize = 1;
 }
@@ -78,9 +79,9 @@ pub enum GssEncResponse {
 }
 
 impl GssEncResponse {
-    pub const BYTE_ACCEPT: u8 = b'G';
+    pub const BYTE_ACCEPT: u8 = kinds::GSS_ACCEPT.1 as u8;
 
-    pub const BYTE_REFUSE: u8 = b'N';
+    pub const BYTE_REFUSE: u8 = kinds::GSS_REFUSE.1 as u8;
 
     pub const MESSAGE_LENGTH: usize = 1;
 }

@@ -27,7 +27,7 @@ returns-2 c =
     let w = l .before .before in
     let a = w .before .before .args in
     let n = whole 4 (a .buf .now) 1 _ _ (sym (w .word .ensures) ∙ ap (wordRead 1) (l .length .given .1)) in
-    rw (le-ltb (length (a .buf .now)) 5 (omega (arith, n .fits, n .next))) (c .frame-end .ensures ∙ ap (λ (n : ℕ). endOf (a .bounds) 1 (length (a .buf .now)) (signedOf 4 n)) (n .is))
+    rw (le-ltb (length (a .buf .now)) 5 (omega (arith, n .fits, n .next))) (c .frame-end .ensures ∙ ap (λ (n : ℕ). endOf (a .line) 1 (length (a .buf .now)) (signedOf 4 n)) (n .is))
 
 pub typed-spec : {M : Type 1} → statement M
 typed-spec =

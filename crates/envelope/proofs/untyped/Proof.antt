@@ -31,7 +31,7 @@ returns-3 c =
     let w = l .before .before in
     let a = w .before .before .before .args in
     let n = whole 4 (a .buf .now) 0 _ _ (sym (w .word .ensures) ∙ ap (wordRead 0) (l .length .given .1)) in
-    rw (le-ltb (length (a .buf .now)) 8 (w .before .if1 .left)) (c .frame-end .ensures ∙ ap (λ (n : ℕ). endOf (a .bounds) 0 (length (a .buf .now)) (signedOf 4 n)) (n .is))
+    rw (le-ltb (length (a .buf .now)) 8 (w .before .if1 .left)) (c .frame-end .ensures ∙ ap (λ (n : ℕ). endOf (a .line) 0 (length (a .buf .now)) (signedOf 4 n)) (n .is))
 
 pub untyped-spec : {M : Type 1} → statement M
 untyped-spec =

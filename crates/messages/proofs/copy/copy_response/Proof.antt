@@ -23,7 +23,7 @@ use Rattle.messages.proofs.copy.copy_response.Tie as tie
 returns : tie.Need-returns
 returns c =
     let a = c .before .before .before .before .args in
-    c .unframed .ensures ∙ none-made (a .rules) typed (a .bounds) copyFields (copyMessage (a .direction)) (a .buf .now) (c .before .before .typed .ensures) (c .before .match .keys2)
+    c .unframed .ensures ∙ none-made (a .rules) typed (a .line) copyFields (copyMessage (a .direction)) (a .buf .now) (c .before .before .typed .ensures) (c .before .match .keys2)
 
 -- a whole frame
 abbrev start : tie.After-frame → tie.Start
@@ -35,7 +35,7 @@ slice-aggregate-frame c = sym (ends typed _ (start c .args .buf .now) (c .before
 abbrev Left : tie.After-frame → (xs : List Field) → (Each Slot xs → Message) → ℕ → Type 0
 Left c =
     let a = start c .args in
-    P.Left (a .rules) (take (c .before .before .header .given .0 .0) (a .buf .now)) (decodeMade (a .rules) typed (a .bounds) copyFields (copyMessage (a .direction)) (a .buf .now))
+    P.Left (a .rules) (take (c .before .before .header .given .0 .0) (a .buf .now)) (decodeMade (a .rules) typed (a .line) copyFields (copyMessage (a .direction)) (a .buf .now))
 
 left : (c : tie.After-frame) → Left c copyFields (copyMessage (start c .args .direction)) 5
 left c = begin-made _ typed _ copyFields (copyMessage (start c .args .direction)) _ (c .before .before .before .before .typed .ensures) (c .before .before .header .given .1)

@@ -20,7 +20,7 @@ use Rattle.messages.proofs.extendedquery.aim.Tie as tie
 returns : tie.Need-returns
 returns c =
     let a = c .before .before .before .before .args in
-    c .unframed .ensures ∙ none-made (a .rules) typed (a .bounds) aimFields (aimMessage (a .act)) (a .buf .now) (c .before .before .typed .ensures) (c .before .match .keys2)
+    c .unframed .ensures ∙ none-made (a .rules) typed (a .line) aimFields (aimMessage (a .act)) (a .buf .now) (c .before .before .typed .ensures) (c .before .match .keys2)
 
 -- a whole frame
 abbrev start : tie.After-frame → tie.Start
@@ -32,7 +32,7 @@ slice-aggregate-frame c = sym (ends typed _ (start c .args .buf .now) (c .before
 abbrev Left : tie.After-frame → (xs : List Field) → (Each Slot xs → Message) → ℕ → Type 0
 Left c =
     let a = start c .args in
-    P.Left (a .rules) (take (c .before .before .header .given .0 .0) (a .buf .now)) (decodeMade (a .rules) typed (a .bounds) aimFields (aimMessage (a .act)) (a .buf .now))
+    P.Left (a .rules) (take (c .before .before .header .given .0 .0) (a .buf .now)) (decodeMade (a .rules) typed (a .line) aimFields (aimMessage (a .act)) (a .buf .now))
 
 left : (c : tie.After-frame) → Left c aimFields (aimMessage (start c .args .act)) 5
 left c = begin-made _ typed _ aimFields (aimMessage (start c .args .act)) _ (c .before .before .before .before .typed .ensures) (c .before .before .header .given .1)

@@ -10,7 +10,7 @@ use Rattle.messages.proofs.startup.request.Tie as tie
 returns : tie.Need-returns
 returns c =
     let a = c .before .before .before .before .args in
-    c .unframed .ensures ∙ none-made (a .rules) untyped (a .bounds) [] (λ _. a .message) (a .buf .now) (c .before .before .untyped .ensures) (c .before .match .keys2)
+    c .unframed .ensures ∙ none-made (a .rules) untyped (a .line) [] (λ _. a .message) (a .buf .now) (c .before .before .untyped .ensures) (c .before .match .keys2)
 
 abbrev start : tie.After-frame → tie.Start
 start c = c .before .before .before .before .before .before
@@ -22,7 +22,7 @@ returns-2 : tie.Need-returns-2
 returns-2 c =
     let f = c .before in
     let a = start f .args in
-    done (begin-made (a .rules) untyped (a .bounds) [] (λ _. a .message) (a .buf .now) (f .before .before .before .before .untyped .ensures) (f .before .before .header .given .1)) (c .finished .ensures)
+    done (begin-made (a .rules) untyped (a .line) [] (λ _. a .message) (a .buf .now) (f .before .before .before .before .untyped .ensures) (f .before .before .header .given .1)) (c .finished .ensures)
 
 pub request-spec : {M : Type 1} → statement M
 request-spec =
