@@ -12,13 +12,10 @@ use Rattle.protocol.specs.declared.Decoded.the-variants as D
 use Rattle.protocol.specs.declared.Decoded.{Decoded}
 use Rattle.protocol.specs.declared.Message.{Message}
 use Rattle.protocol.specs.declared.Rules.{Rules}
-use Rattle.protocol.specs.Decode.{Header, more, refuse, framed, headerOf, decodedBy, decodeBy, decodeOf}
-use Rattle.protocol.specs.Kinds.{Envelope, typed, untyped, bare}
-use Rattle.protocol.specs.Reading.{Read, got, bad}
+use Rattle.protocol.specs.Decode.{decodeOf}
 use Rattle.protocol.specs.Stream.{frame, stop, whole, stepBy, stepAt}
-use Rattle.protocol.specs.WellFormed.{bodyStart}
 use Rattle.protocol.proofs.Basics.{zero-one}
-use Rattle.protocol.proofs.Framed.{framed-is, framed-ends}
+use Rattle.protocol.proofs.Framed.{record-size}
 
 module _ (rules : Rules) (s : List ℕ) (p : ℕ) where
   -- no byte is left there
@@ -33,30 +30,6 @@ module _ (rules : Rules) (s : List ℕ) (p : ℕ) where
       rw (lt-leb (length s) p h) (ap stepBy (e ∙ ap (decodeOf rules) (take-all (length s - p) (drop p s) (simp length-drop (omega arith)))))
 
 -- ---- a frame has a byte at least, and ends within the stream
-
-body-is : (b : Read Message) (end : ℕ) {m : Message} {n : ℕ} → decodedBy b end ≡ D.Record m n → end ≡ n
-unfolding decodedBy
-body-is (got x next) end e = cc
-body-is (bad number place) end e = absurd (zero-one cc)
-
-starts : (e : Envelope) → 1 ≤ bodyStart e
-starts typed = omega arith
-starts untyped = omega arith
-starts bare = omega arith
-
-size-by : (rules : Rules) (s : List ℕ) (h : Header) {m : Message} {n : ℕ} → headerOf rules s ≡ h → decodeBy rules s h ≡ D.Record m n → (1 ≤ n) × (n ≤ length s)
-unfolding decodeBy
-size-by rules s more q e = absurd (zero-one cc)
-size-by rules s (refuse number place) q e = absurd (zero-one cc)
-size-by rules s (framed k start end) q e =
-    let f = framed-is rules s k start end q in
-    let b = framed-ends rules s k start end f in
-    let x = body-is _ end e in
-    (omega (arith, b .0, starts (f .mode .envelope)), omega (arith, b .1))
-
-record-size : (rules : Rules) (s : List ℕ) {m : Message} {n : ℕ} → decodeOf rules s ≡ D.Record m n → (1 ≤ n) × (n ≤ length s)
-unfolding decodeOf
-record-size rules s e = size-by rules s (headerOf rules s) refl e
 
 decoded-is : (d : Decoded) {m : Message} {n : ℕ} → stepBy d ≡ frame m n → d ≡ D.Record m n
 unfolding stepBy

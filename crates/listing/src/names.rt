@@ -1,60 +1,71 @@
-// The name of each kind, the Rust's type name, as a part of one text.
+// The name of each kind, the Rust's type name, as its line in the tables of kinds has it.
 ghost use Prim.Native.Nat.{_+_, _≤_};
+ghost use mathlib.Core.Path.{_≡_};
 ghost use lib.ListN.{length};
+ghost use Rattle.protocol.specs.Lines.{filled};
 ghost use Rattle.protocol.specs.Names.{lettersOf, nameOf};
-ghost use Rattle.listing.specs.Names.{NameAt};
+ghost use Rattle.listing.specs.Names.{lettersIn};
 ghost use Rattle.listing.specs.Text.{Wrote};
-use crate::text::put_part;
 use protocol::Message;
+use protocol::kinds;
+use writers::put_bytes;
 
-// Where a name begins in the text, and its length.
-struct Name {
-    at: usize,
-    len: usize,
-}
-
-fn name_of(message: Message) -> Name
-    ensures { λ r. ⌜ NameAt message (r .at) (r .len) ⌝ }
+fn name_of(message: Message) -> [u8; 20]
+    ensures { λ r. ⌜ r ≡ filled 20 (nameOf message) ⌝ }
 {
     match message {
-        Message::Parse(_) => Name { at: 0, len: 5 },
-        Message::Bind(_) => Name { at: 6, len: 4 },
-        Message::Close(_) => Name { at: 11, len: 5 },
-        Message::Describe(_) => Name { at: 17, len: 8 },
-        Message::Execute(_) => Name { at: 26, len: 7 },
-        Message::Flush => Name { at: 34, len: 5 },
-        Message::Sync => Name { at: 40, len: 4 },
-        Message::CopyDone => Name { at: 45, len: 8 },
-        Message::CopyData(_) => Name { at: 54, len: 8 },
-        Message::CopyFail(_) => Name { at: 63, len: 8 },
-        Message::ParseComplete => Name { at: 72, len: 13 },
-        Message::BindComplete => Name { at: 86, len: 12 },
-        Message::CloseComplete => Name { at: 99, len: 13 },
-        Message::PortalSuspended => Name { at: 113, len: 15 },
-        Message::NoData => Name { at: 129, len: 6 },
-        Message::EmptyQueryResponse => Name { at: 136, len: 18 },
-        Message::RowDescription(_) => Name { at: 155, len: 14 },
-        Message::ParameterDescription(_) => Name { at: 170, len: 20 },
-        Message::DataRow(_) => Name { at: 191, len: 7 },
-        Message::CommandComplete(_) => Name { at: 199, len: 15 },
-        Message::ReadyForQuery(_) => Name { at: 215, len: 13 },
-        Message::ErrorResponse(_) => Name { at: 229, len: 13 },
-        Message::NoticeResponse(_) => Name { at: 243, len: 14 },
-        Message::CopyInResponse(_) => Name { at: 258, len: 14 },
-        Message::CopyOutResponse(_) => Name { at: 273, len: 15 },
-        Message::CopyBothResponse(_) => Name { at: 289, len: 16 },
-        Message::NotificationResponse(_) => Name { at: 306, len: 20 },
-        Message::CancelRequest(_) => Name { at: 327, len: 13 },
-        Message::SslResponse(_) => Name { at: 341, len: 11 },
-        Message::GssEncResponse(_) => Name { at: 353, len: 14 },
-        Message::Startup(_) => Name { at: 368, len: 7 },
-        Message::SslRequest => Name { at: 376, len: 10 },
-        Message::GssEncRequest => Name { at: 387, len: 13 },
-        Message::Query(_) => Name { at: 401, len: 5 },
-        Message::Terminate => Name { at: 407, len: 9 },
-        Message::ParameterStatus(_) => Name { at: 417, len: 15 },
-        Message::BackendKeyData(_) => Name { at: 433, len: 14 },
+        Message::Parse(_) => kinds::PARSE.0,
+        Message::Bind(_) => kinds::BIND.0,
+        Message::Close(_) => kinds::CLOSE.0,
+        Message::Describe(_) => kinds::DESCRIBE.0,
+        Message::Execute(_) => kinds::EXECUTE.0,
+        Message::Flush => kinds::FLUSH.0,
+        Message::Sync => kinds::SYNC.0,
+        Message::CopyDone => kinds::COPY_DONE.0,
+        Message::CopyData(_) => kinds::COPY_DATA.0,
+        Message::CopyFail(_) => kinds::COPY_FAIL.0,
+        Message::ParseComplete => kinds::PARSE_COMPLETE.0,
+        Message::BindComplete => kinds::BIND_COMPLETE.0,
+        Message::CloseComplete => kinds::CLOSE_COMPLETE.0,
+        Message::PortalSuspended => kinds::PORTAL_SUSPENDED.0,
+        Message::NoData => kinds::NO_DATA.0,
+        Message::EmptyQueryResponse => kinds::EMPTY_QUERY_RESPONSE.0,
+        Message::RowDescription(_) => kinds::ROW_DESCRIPTION.0,
+        Message::ParameterDescription(_) => kinds::PARAMETER_DESCRIPTION.0,
+        Message::DataRow(_) => kinds::DATA_ROW.0,
+        Message::CommandComplete(_) => kinds::COMMAND_COMPLETE.0,
+        Message::ReadyForQuery(_) => kinds::READY_FOR_QUERY.0,
+        Message::ErrorResponse(_) => kinds::ERROR_RESPONSE.0,
+        Message::NoticeResponse(_) => kinds::NOTICE_RESPONSE.0,
+        Message::CopyInResponse(_) => kinds::COPY_IN_RESPONSE.0,
+        Message::CopyOutResponse(_) => kinds::COPY_OUT_RESPONSE.0,
+        Message::CopyBothResponse(_) => kinds::COPY_BOTH_RESPONSE.0,
+        Message::NotificationResponse(_) => kinds::NOTIFICATION_RESPONSE.0,
+        Message::CancelRequest(_) => kinds::CANCEL_REQUEST.0,
+        Message::SslResponse(_) => kinds::SSL_ACCEPT.0,
+        Message::GssEncResponse(_) => kinds::GSS_ACCEPT.0,
+        Message::Startup(_) => kinds::STARTUP.0,
+        Message::SslRequest => kinds::SSL_REQUEST.0,
+        Message::GssEncRequest => kinds::GSS_ENC_REQUEST.0,
+        Message::Query(_) => kinds::QUERY.0,
+        Message::Terminate => kinds::TERMINATE.0,
+        Message::ParameterStatus(_) => kinds::PARAMETER_STATUS.0,
+        Message::BackendKeyData(_) => kinds::BACKEND_KEY_DATA.0,
     }
+}
+
+// How many letters a name has before the spaces that fill it up.
+fn letters_in(name: [u8; 20]) -> usize
+    ensures { λ r. ⌜ r ≡ lettersIn name ⌝ }
+{
+    let mut n = 0;
+    while n < 20 {
+        if name[n] == b' ' {
+            return n;
+        }
+        n += 1;
+    }
+    n
 }
 
 // A kind's name.
@@ -64,13 +75,6 @@ pub fn put_name(out: &mut [u8], at: usize, message: Message) -> usize
     ensures { λ r. ⌜ r ≤ at + 20 ⌝ }
 {
     let name = name_of(message);
-    let start = name.at;
-    let len = name.len;
-    put_part(
-        out,
-        at,
-        b"Parse Bind Close Describe Execute Flush Sync CopyDone CopyData CopyFail ParseComplete BindComplete CloseComplete PortalSuspended NoData EmptyQueryResponse RowDescription ParameterDescription DataRow CommandComplete ReadyForQuery ErrorResponse NoticeResponse CopyInResponse CopyOutResponse CopyBothResponse NotificationResponse CancelRequest SslResponse GssEncResponse Startup SslRequest GssEncRequest Query Terminate ParameterStatus BackendKeyData ",
-        start,
-        len,
-    )
+    let n = letters_in(name);
+    put_bytes(out, at, &name[..n])
 }

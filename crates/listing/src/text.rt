@@ -1,7 +1,7 @@
 // Writers of text: each writes at a place of a lent slice and returns the place after it.
 ghost use Prim.Native.Nat.{_+_, _≤_, _<_};
 ghost use mathlib.Core.Path.{_≡_};
-ghost use lib.ListN.{drop, length, take};
+ghost use lib.ListN.{drop, length};
 ghost use Rattle.listing.specs.Text.{Wrote, decimal};
 use writers::put_bytes;
 
@@ -43,13 +43,4 @@ pub fn put_number(out: &mut [u8], at: usize, n: usize) -> usize
     let letters = digits.letters;
     let first = digits.first;
     put_bytes(out, at, &letters[first..])
-}
-
-// A part of some bytes.
-pub fn put_part(out: &mut [u8], at: usize, s: &[u8], start: usize, len: usize) -> usize
-    requires { ⌜ (start + len ≤ length (now s)) × (at + len ≤ length (now out)) ⌝ }
-    ensures { λ r. ⌜ Wrote (now (out .entry)) at (take len (drop start (now (s .entry)))) (now (out .exit)) r ⌝ }
-    ensures { λ r. ⌜ r ≡ at + len ⌝ }
-{
-    put_bytes(out, at, &s[start..start + len])
 }
