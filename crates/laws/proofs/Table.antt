@@ -1,20 +1,21 @@
 -- The table of kinds, held against its own shape. A test over all rows is computed, and a law carries it to each.
 use Prim.Native.Nat.{ℕ}
 use mathlib.Core.Bool.{Bool, true, false, cond, not, _&&_}
-use mathlib.Core.List.{List, [], _∷_}
+use mathlib.Core.List.{List, [], _∷_, map}
 use mathlib.Core.Logic.{inl, inr, _↔_}
-use mathlib.Core.Option.{some}
+use mathlib.Core.Option.{some, Option·map}
 use mathlib.Core.Path.{_≡_, refl, ap, sym, _∙_}
 use borrow.Author.Tests.{eqb-true, eq-eqb, ne-eqb}
 use lib.Dec.{T, eqb, eqb→eq}
 use Rattle.protocol.specs.declared.Rules.{Rules}
+use Rattle.protocol.specs.declared.kinds.Line.{Line}
 use Rattle.protocol.specs.Each.{leastOfEach}
 use Rattle.protocol.specs.Fields.{least}
-use Rattle.protocol.specs.Kinds.{Envelope, Kind, Mode, modes, IsIn, find, modeOf, kindIn}
+use Rattle.protocol.specs.Kinds.{Envelope, Kind, Mode, modes, IsIn, find, modeOf, kindIn, the-table}
+use Rattle.protocol.specs.Lines.{lineOf, linesOf}
 use Rattle.protocol.specs.WellFormed.{lengthOf}
 use Rattle.protocol.proofs.Basics.{zero-one, left-holds, right-holds}
 use Rattle.protocol.proofs.Find.{every, every-in, numberOf, tagOf}
-use Rattle.protocol.specs.Kinds.{the-table}
 use Rattle.laws.specs.Statements.{Table}
 
 -- ---- smallest lengths
@@ -100,5 +101,22 @@ tags-apart m i k h j l e =
     let q = kind-found m i (h .tag) h .1 (l, refl) in
     cc
 
+-- ---- lines
+
+-- what is made of each row is found by the row's own key
+find-made : {A B : Type 0} (key : B → ℕ) (make : A → B) (n : ℕ) (xs : List A) → find key n (map make xs) ≡ Option·map make (find (λ (x : A). key (make x)) n xs)
+unfolding find
+find-made key make n [] = refl
+find-made {A} key make n (x ∷ xs) = by (eqb n (key (make x))) (find-made key make n xs)
+  where
+    by : (t : Bool) → find key n (map make xs) ≡ Option·map make (find (λ (x : A). key (make x)) n xs)
+        → cond t (some (make x)) (find key n (map make xs)) ≡ Option·map make (cond t (some x) (find (λ (x : A). key (make x)) n xs))
+    by true rest = refl
+    by false rest = rest
+
+lines-choose : (m : Mode) (tag : ℕ) → find (λ (l : Line). l .1) tag (linesOf m) ≡ Option·map lineOf (kindIn m tag)
+unfolding kindIn
+lines-choose m tag = find-made (λ (l : Line). l .1) lineOf tag (m .kinds)
+
 pub table : Table modes
-table = record { smallest = smallest-is; apart = tags-apart }
+table = record { smallest = smallest-is; apart = tags-apart; lines = lines-choose }

@@ -5,20 +5,22 @@ use Prim.Native.Nat.{ℕ, _+_, _≤_}
 use mathlib.Core.Bool.{true, false}
 use mathlib.Core.List.{List, [], _∷_, _++_}
 use mathlib.Core.Logic.{_⊎_, _↔_}
-use mathlib.Core.Option.{none}
+use mathlib.Core.Option.{none, Option·map}
 use mathlib.Core.Path.{_≡_}
 use lib.ListN.{length, take, drop}
 use Rattle.protocol.specs.declared.Decoded.{Decoded}
 use Rattle.protocol.specs.declared.Element.{Element}
 use Rattle.protocol.specs.declared.Message.{Message}
 use Rattle.protocol.specs.declared.Rules.{Rules}
+use Rattle.protocol.specs.declared.kinds.Line.{Line}
 use Rattle.protocol.specs.Answers.{Answer, success, needsMore, refusal, ofDecoded}
 use Rattle.protocol.specs.Bytes.{Bytes, isOneOf}
 use Rattle.protocol.specs.Decode.{decodeOf}
 use Rattle.protocol.specs.Each.{Each, leastOfEach}
 use Rattle.protocol.specs.Elements.{elementOf}
 use Rattle.protocol.specs.Fields.{Slot, least}
-use Rattle.protocol.specs.Kinds.{Kind, Mode, modes, IsIn}
+use Rattle.protocol.specs.Kinds.{Kind, Mode, modes, IsIn, find, kindIn}
+use Rattle.protocol.specs.Lines.{lineOf, linesOf}
 use Rattle.protocol.specs.Refusals.{modeUnknown}
 use Rattle.protocol.specs.WellFormed.{Contents, WellFormed, bodyStart, lengthOf, frame, recordOf}
 use Rattle.laws.specs.Edges.{edges, Answered}
@@ -144,8 +146,10 @@ OneDecoder decode =
     (other : Decoder) → Complete other → NeedMore other → Refusals other
     → (rules : Rules) (s : List ℕ) → Bytes s → ofDecoded (other rules s) ≡ ofDecoded (decode rules s)
 
--- 11. Table. Each kind's smallest length is what its fields need at least, and no two kinds of a mode share what tells them. That the table has
--- FORMAT.md's lines is said in crate by_kind.
+-- 11. Table. Each kind's smallest length is what its fields need at least, and no two kinds of a mode share what tells them. The lines, which the code
+-- holds for a person to check, choose as the rows do: the line with a tag is that of the kind that the tag tells, and where no line has it, no kind is
+-- told. That the table has FORMAT.md's lines is said in crate by_kind.
 pub record Table (table : List Mode) : Type 0 where
   pub smallest : (m : Mode) → IsIn m table → (k : Kind) → IsIn k (m .kinds) → k .smallest ≡ lengthOf (m .envelope) (leastOfEach least (k .body))
   pub apart : (m : Mode) → IsIn m table → (k h : Kind) → IsIn k (m .kinds) → IsIn h (m .kinds) → k .tag ≡ h .tag → k ≡ h
+  pub lines : (m : Mode) (tag : ℕ) → find (λ (l : Line). l .1) tag (linesOf m) ≡ Option·map lineOf (kindIn m tag)
