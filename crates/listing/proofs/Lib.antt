@@ -3,5 +3,5 @@ pub mod Steps
 pub mod Digits
 pub mod Openings
 pub mod Filling
-pub mod Letters
+pub mod Arms
 pub mod Printed

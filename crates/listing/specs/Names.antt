@@ -1,17 +1,8 @@
--- A kind's name, as its line has it: letters, filled up with spaces.
-use Prim.Native.Char.{code}
-use Prim.Native.Nat.{ℕ, suc}
-use mathlib.Core.Bool.{Bool, true, false, cond, _&&_}
+-- Which kinds have their names by which function.
+use mathlib.Core.Bool.{Bool, true, false, _&&_}
 use mathlib.Core.List.{List, [], _∷_}
-use lib.Dec.{eqb}
 use Rattle.protocol.specs.Kinds.{Kind}
 
--- how many letters stand before the first space
-unfoldable pub lettersIn : List ℕ → ℕ
-lettersIn [] = 0
-lettersIn (c ∷ cs) = cond (eqb c (code " ")) 0 (suc (lettersIn cs))
-
--- a kind whose record holds nothing: it has no field, and no number of its own behind the kind's, as an answer has
 abbrev none : {A : Type 0} → List A → Bool
 none [] = true
 none (x ∷ xs) = false
@@ -20,5 +11,6 @@ abbrev one : {A : Type 0} → List A → Bool
 one [] = false
 one (x ∷ xs) = none xs
 
+-- a kind whose record holds nothing: it has no field, and no number behind the kind's own, as an answer has
 abbrev pub holdsNothing : Kind → Bool
 holdsNothing k = none (k .body) && one (k .numbers)

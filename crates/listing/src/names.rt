@@ -6,7 +6,7 @@ ghost use lib.ListN.{length};
 ghost use Rattle.protocol.specs.Lines.{filled};
 ghost use Rattle.protocol.specs.Names.{lettersOf, nameOf};
 ghost use Rattle.protocol.specs.Views.{view};
-ghost use Rattle.listing.specs.Names.{holdsNothing, lettersIn};
+ghost use Rattle.listing.specs.Names.{holdsNothing};
 ghost use Rattle.listing.specs.Text.{Wrote};
 use protocol::Message;
 use protocol::kinds;
@@ -66,20 +66,6 @@ fn empty_name(message: Message) -> [u8; 20]
     }
 }
 
-// How many letters a name has before the spaces that fill it up.
-fn letters_in(name: [u8; 20]) -> usize
-    ensures { λ r. ⌜ r ≡ lettersIn name ⌝ }
-{
-    let mut n = 0;
-    while n < 20 {
-        if name[n] == b' ' {
-            return n;
-        }
-        n += 1;
-    }
-    n
-}
-
 // A kind's name.
 pub fn put_name(out: &mut [u8], at: usize, message: Message) -> usize
     requires { ⌜ at + 20 ≤ length (now out) ⌝ }
@@ -87,6 +73,6 @@ pub fn put_name(out: &mut [u8], at: usize, message: Message) -> usize
     ensures { λ r. ⌜ r ≤ at + 20 ⌝ }
 {
     let name = name_of(message);
-    let n = letters_in(name);
+    let n = kinds::letters_in(name);
     put_bytes(out, at, &name[..n])
 }

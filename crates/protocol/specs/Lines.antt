@@ -2,8 +2,10 @@
 use Prim.Native.Char.{code}
 use Prim.Native.Nat.{ℕ, zero, suc}
 use Prim.Native.String.{String, [] as end, _∷_ as _then_}
+use mathlib.Core.Bool.{cond}
 use mathlib.Core.List.{List, [], _∷_, map}
 use mathlib.Core.Option.{Option, some, none}
+use lib.Dec.{eqb}
 use lib.ListN.{getD}
 use Rattle.protocol.specs.declared.Rules.{Rules}
 use Rattle.protocol.specs.declared.kinds.Line.{Line}
@@ -15,6 +17,11 @@ abbrev pub filled : ℕ → String → List ℕ
 filled zero name = []
 filled (suc n) end = code " " ∷ filled n end
 filled (suc n) (c then name) = code c ∷ filled n name
+
+-- how many letters stand before the first space
+unfoldable pub lettersIn : List ℕ → ℕ
+lettersIn [] = 0
+lettersIn (c ∷ cs) = cond (eqb c (code " ")) 0 (suc (lettersIn cs))
 
 abbrev pub lineOf : Kind → Line
 lineOf k = record { 0 = filled 20 (k .name); 1 = k .tag; 2 = k .smallest; 3 = k .limit; 4 = kindNumber k }

@@ -3,7 +3,7 @@
 // Inner: for crates of this library alone (docs/INNER.md).
 ghost use mathlib.Core.Path.{_≡_};
 ghost use Rattle.protocol.specs.Kinds as K;
-ghost use Rattle.protocol.specs.Lines.{lineAt, lineIn, linesOf};
+ghost use Rattle.protocol.specs.Lines.{lettersIn, lineAt, lineIn, linesOf};
 ghost use Rattle.protocol.specs.Rules.{rulesOf};
 
 // The two limits. The papers mark the kinds that have the first with an L.
@@ -238,4 +238,18 @@ pub fn line_at(mode: u8, index: usize) -> Line
         5 => first_packet(index),
         _ => NO_KIND,
     }
+}
+
+// How many letters the name of a line has, before the spaces that fill it up.
+pub fn letters_in(name: [u8; 20]) -> usize
+    ensures { λ r. ⌜ r ≡ lettersIn name ⌝ }
+{
+    let mut n = 0;
+    while n < 20 {
+        if name[n] == b' ' {
+            return n;
+        }
+        n += 1;
+    }
+    n
 }

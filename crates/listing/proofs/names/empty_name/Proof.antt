@@ -3,7 +3,7 @@ use mathlib.Core.Path.{_≡_, refl}
 use borrow.Author.Needs.{needs}
 use Rattle.protocol.specs.Kinds.{find, the-table}
 use Rattle.protocol.specs.Views.{view, numbered}
-use Rattle.listing.proofs.Letters.{arm, left-last}
+use Rattle.listing.proofs.Arms.{arm, left-last}
 use Rattle.listing.proofs.names.empty_name.Statement.{statement}
 use Rattle.listing.proofs.names.empty_name.Tie as tie
 

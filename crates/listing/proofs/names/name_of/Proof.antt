@@ -10,7 +10,7 @@ use Rattle.protocol.specs.Kinds.{find, the-table}
 use Rattle.protocol.specs.Lines.{filled}
 use Rattle.protocol.specs.Names.{nameOf}
 use Rattle.protocol.specs.Views.{view, numbered}
-use Rattle.listing.proofs.Letters.{arm, left-empty}
+use Rattle.listing.proofs.Arms.{arm, left-empty}
 use Rattle.listing.proofs.names.name_of.Statement.{statement}
 use Rattle.listing.proofs.names.name_of.Tie as tie
 

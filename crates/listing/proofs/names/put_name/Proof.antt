@@ -6,7 +6,7 @@ use borrow.Author.Needs.{needs}
 use lib.ListN.{length, take}
 use lib.Seq.{length-take-le}
 use Rattle.protocol.specs.Names.{nameOf, lettersOf}
-use Rattle.listing.proofs.Letters.{not-more, filled-length, its-letters}
+use Rattle.protocol.proofs.Lines.{not-more, filled-length, its-letters}
 use Rattle.listing.proofs.Writing.{same}
 use Rattle.listing.proofs.names.put_name.Statement.{statement}
 use Rattle.listing.proofs.names.put_name.Tie as tie
