@@ -10,6 +10,7 @@ ghost use Rattle.listing.specs.Names.{holdsNothing};
 ghost use Rattle.listing.specs.Text.{Wrote};
 use protocol::Message;
 use protocol::kinds;
+use protocol::tables::letters_in;
 use writers::put_bytes;
 
 fn name_of(message: Message) -> [u8; 20]
@@ -73,6 +74,6 @@ pub fn put_name(out: &mut [u8], at: usize, message: Message) -> usize
     ensures { λ r. ⌜ r ≤ at + 20 ⌝ }
 {
     let name = name_of(message);
-    let n = kinds::letters_in(name);
+    let n = letters_in(name);
     put_bytes(out, at, &name[..n])
 }

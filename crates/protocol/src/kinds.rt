@@ -1,27 +1,16 @@
-// The tables of kinds, a line for each kind, in the order of docs/FORMAT.md 4: to be held against the paper line by line. No other code says a kind's name,
-// type byte, code, smallest length or limit: it takes these lines, and a contract those of specs/Kinds.
+// The tables of kinds, for a person to hold against the papers line by line, in the papers' order (docs/FORMAT.md 4). A kind's line reads
+//     Line(name, type byte or code, smallest length, limit, number)
+// where b'P' is the letter P, LARGE is the papers' L, and the number is the kind's for hosts in other languages, which is on no paper.
+// All other code takes these lines: a decoder its own, the type bytes and codes, the names of the listing. A contract takes the rows of specs/Kinds, which have
+// each kind's fields too; that the two are the same is proved (`tables::line_at`).
 // Inner: for crates of this library alone (docs/INNER.md).
-ghost use mathlib.Core.Path.{_≡_};
-ghost use Rattle.protocol.specs.Kinds as K;
-ghost use Rattle.protocol.specs.Lines.{lettersIn, lineAt, lineIn, linesOf};
-ghost use Rattle.protocol.specs.Rules.{rulesOf};
 
-// The two limits. The papers mark the kinds that have the first with an L.
+// The two limits of a length: L, and that of all other kinds.
 pub const LARGE: u32 = 1048576;
 
 pub const SMALL: u32 = 8192;
 
-// The most elements of a list: the largest count of two bytes that is not negative.
-pub const MOST_SIGNED: usize = 32767;
-
-// The largest length that a signed word can tell: above it, the word is negative.
-pub const LONGEST: u32 = 2147483647;
-
-// The bytes of the longest typed frame of all: a type byte is not counted by the length.
-pub const LARGE_FRAME: usize = LARGE as usize + 1;
-
-// A line: the kind's name, filled up with spaces; its type byte, as b'P', or its code; its smallest length; its limit; and its number at the boundary for
-// other languages, which is ours and on no paper.
+// A line. The name is filled up with spaces.
 pub struct Line(pub [u8; 20], pub u32, pub u32, pub u32, pub u8);
 
 // ---- from the frontend, mode 0
@@ -154,102 +143,13 @@ pub const GSS_ANSWER: [Line; 2] = [GSS_ACCEPT, GSS_REFUSE];
 
 pub const FIRST_PACKET: [Line; 4] = [STARTUP, SSL_REQUEST, GSS_ENC_REQUEST, CANCEL_REQUEST];
 
-// ---- a line by its place
+// ---- other numbers of the format
 
-// What stands behind a table's last line: a line of no kind, since no kind has the number 0.
-pub const NO_KIND: Line = Line([b' '; 20], 0, 0, 0, 0);
+// The most elements of a list: the largest count of two bytes that is not negative.
+pub const MOST_SIGNED: usize = 32767;
 
-fn frontend(index: usize) -> Line
-    ensures { λ r. ⌜ r ≡ lineIn (linesOf K.frontend) index ⌝ }
-{
-    let table = FRONTEND;
-    if index < table.len() {
-        table[index]
-    } else {
-        NO_KIND
-    }
-}
+// The largest length that a signed word can tell: above it, the word is negative.
+pub const LONGEST: u32 = 2147483647;
 
-fn backend(index: usize) -> Line
-    ensures { λ r. ⌜ r ≡ lineIn (linesOf K.backend) index ⌝ }
-{
-    let table = BACKEND;
-    if index < table.len() {
-        table[index]
-    } else {
-        NO_KIND
-    }
-}
-
-fn cancel(index: usize) -> Line
-    ensures { λ r. ⌜ r ≡ lineIn (linesOf K.cancel) index ⌝ }
-{
-    let table = CANCEL;
-    if index < table.len() {
-        table[index]
-    } else {
-        NO_KIND
-    }
-}
-
-fn tls_answer(index: usize) -> Line
-    ensures { λ r. ⌜ r ≡ lineIn (linesOf K.tlsAnswer) index ⌝ }
-{
-    let table = TLS_ANSWER;
-    if index < table.len() {
-        table[index]
-    } else {
-        NO_KIND
-    }
-}
-
-fn gss_answer(index: usize) -> Line
-    ensures { λ r. ⌜ r ≡ lineIn (linesOf K.gssAnswer) index ⌝ }
-{
-    let table = GSS_ANSWER;
-    if index < table.len() {
-        table[index]
-    } else {
-        NO_KIND
-    }
-}
-
-fn first_packet(index: usize) -> Line
-    ensures { λ r. ⌜ r ≡ lineIn (linesOf K.firstPacket) index ⌝ }
-{
-    let table = FIRST_PACKET;
-    if index < table.len() {
-        table[index]
-    } else {
-        NO_KIND
-    }
-}
-
-// The line at a place of a mode's table, counted from 0.
-pub fn line_at(mode: u8, index: usize) -> Line
-    ensures { λ r. ⌜ r ≡ lineAt (rulesOf mode) index ⌝ }
-{
-    match mode {
-        0 => frontend(index),
-        1 => backend(index),
-        2 => cancel(index),
-        3 => tls_answer(index),
-        4 => gss_answer(index),
-        5 => first_packet(index),
-        _ => NO_KIND,
-    }
-}
-
-// How many letters the name of a line has, before the spaces that fill it up.
-pub fn letters_in(name: [u8; 20]) -> usize
-    ensures { λ r. ⌜ r ≡ lettersIn name ⌝ }
-{
-    let mut n = 0;
-    while n < 20 {
-        if name[n] == b' ' {
-            return n;
-        }
-        n += 1;
-    }
-    n
-}
+// The bytes of the longest typed frame of all: a type byte is not counted by the length.
+pub const LARGE_FRAME: usize = LARGE as usize + 1;

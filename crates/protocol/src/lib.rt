@@ -11,6 +11,7 @@ pub mod refusal;
 pub mod response;
 pub mod simplequery;
 pub mod startup;
+pub mod tables;
 pub mod terminate;
 
 use cancel::CancelRequest;

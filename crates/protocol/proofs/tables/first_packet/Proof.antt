@@ -1,10 +1,10 @@
--- `protocol::kinds::first_packet` meets its contract: the table of the code is the rows' lines, which computes.
+-- `protocol::tables::first_packet` meets its contract: the table of the code is the rows' lines, which computes.
 use borrow.Author.Needs.{needs}
 use Rattle.protocol.specs.Kinds.{firstPacket, the-table}
 use Rattle.protocol.specs.Lines.{linesOf}
 use Rattle.protocol.proofs.Lines.{there, behind}
-use Rattle.protocol.proofs.kinds.first_packet.Statement.{statement}
-use Rattle.protocol.proofs.kinds.first_packet.Tie as tie
+use Rattle.protocol.proofs.tables.first_packet.Statement.{statement}
+use Rattle.protocol.proofs.tables.first_packet.Tie as tie
 
 returns : tie.Need-returns
 unfolding the-table

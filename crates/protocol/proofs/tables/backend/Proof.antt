@@ -1,10 +1,10 @@
--- `protocol::kinds::backend` meets its contract: the table of the code is the rows' lines, which computes.
+-- `protocol::tables::backend` meets its contract: the table of the code is the rows' lines, which computes.
 use borrow.Author.Needs.{needs}
 use Rattle.protocol.specs.Kinds.{backend, the-table}
 use Rattle.protocol.specs.Lines.{linesOf}
 use Rattle.protocol.proofs.Lines.{there, behind}
-use Rattle.protocol.proofs.kinds.backend.Statement.{statement}
-use Rattle.protocol.proofs.kinds.backend.Tie as tie
+use Rattle.protocol.proofs.tables.backend.Statement.{statement}
+use Rattle.protocol.proofs.tables.backend.Tie as tie
 
 returns : tie.Need-returns
 unfolding the-table

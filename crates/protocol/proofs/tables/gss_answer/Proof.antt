@@ -1,10 +1,10 @@
--- `protocol::kinds::gss_answer` meets its contract: the table of the code is the rows' lines, which computes.
+-- `protocol::tables::gss_answer` meets its contract: the table of the code is the rows' lines, which computes.
 use borrow.Author.Needs.{needs}
 use Rattle.protocol.specs.Kinds.{gssAnswer, the-table}
 use Rattle.protocol.specs.Lines.{linesOf}
 use Rattle.protocol.proofs.Lines.{there, behind}
-use Rattle.protocol.proofs.kinds.gss_answer.Statement.{statement}
-use Rattle.protocol.proofs.kinds.gss_answer.Tie as tie
+use Rattle.protocol.proofs.tables.gss_answer.Statement.{statement}
+use Rattle.protocol.proofs.tables.gss_answer.Tie as tie
 
 returns : tie.Need-returns
 unfolding the-table

@@ -1,10 +1,10 @@
--- `protocol::kinds::frontend` meets its contract: the table of the code is the rows' lines, which computes.
+-- `protocol::tables::frontend` meets its contract: the table of the code is the rows' lines, which computes.
 use borrow.Author.Needs.{needs}
 use Rattle.protocol.specs.Kinds.{frontend, the-table}
 use Rattle.protocol.specs.Lines.{linesOf}
 use Rattle.protocol.proofs.Lines.{there, behind}
-use Rattle.protocol.proofs.kinds.frontend.Statement.{statement}
-use Rattle.protocol.proofs.kinds.frontend.Tie as tie
+use Rattle.protocol.proofs.tables.frontend.Statement.{statement}
+use Rattle.protocol.proofs.tables.frontend.Tie as tie
 
 returns : tie.Need-returns
 unfolding the-table

@@ -1,4 +1,4 @@
--- `protocol::kinds::letters_in` meets its contract: where the loop stands, the letters of the rest are left to count.
+-- `protocol::tables::letters_in` meets its contract: where the loop stands, the letters of the rest are left to count.
 use Prim.Native.Nat.{suc, _+_, _-_, _≤_}
 use mathlib.Core.Path.{_≡_, refl, sym, _∙_}
 use native.Mathlib.Omega.{arith}
@@ -6,8 +6,8 @@ use borrow.Author.Needs.{needs}
 use lib.ListN.{drop}
 use Rattle.protocol.specs.Lines.{lettersIn}
 use Rattle.protocol.proofs.Lines.{at-space, at-letter, at-end}
-use Rattle.protocol.proofs.kinds.letters_in.Statement.{statement}
-use Rattle.protocol.proofs.kinds.letters_in.Tie as tie
+use Rattle.protocol.proofs.tables.letters_in.Statement.{statement}
+use Rattle.protocol.proofs.tables.letters_in.Tie as tie
 
 abbrev Inv-loop : tie.InvT-loop
 Inv-loop name n₀ n = (n ≤ 20) × (n + lettersIn (drop n name) ≡ lettersIn name)

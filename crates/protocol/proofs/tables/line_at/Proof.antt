@@ -1,12 +1,12 @@
--- `protocol::kinds::line_at` meets its contract: each arm is a mode.
+-- `protocol::tables::line_at` meets its contract: each arm is a mode.
 use mathlib.Core.Path.{_∙_}
 use borrow.Author.Needs.{needs}
 use Rattle.protocol.specs.Kinds.{find, the-table}
 use Rattle.protocol.specs.Rules.{rulesOf}
 use Rattle.protocol.proofs.Find.{mode-is, no-mode}
 use Rattle.protocol.proofs.Lines.{of-mode, of-none}
-use Rattle.protocol.proofs.kinds.line_at.Statement.{statement}
-use Rattle.protocol.proofs.kinds.line_at.Tie as tie
+use Rattle.protocol.proofs.tables.line_at.Statement.{statement}
+use Rattle.protocol.proofs.tables.line_at.Tie as tie
 
 pub line-at-spec : {M : Type 1} → statement M
 unfolding find the-table

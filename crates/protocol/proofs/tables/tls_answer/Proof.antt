@@ -1,10 +1,10 @@
--- `protocol::kinds::tls_answer` meets its contract: the table of the code is the rows' lines, which computes.
+-- `protocol::tables::tls_answer` meets its contract: the table of the code is the rows' lines, which computes.
 use borrow.Author.Needs.{needs}
 use Rattle.protocol.specs.Kinds.{tlsAnswer, the-table}
 use Rattle.protocol.specs.Lines.{linesOf}
 use Rattle.protocol.proofs.Lines.{there, behind}
-use Rattle.protocol.proofs.kinds.tls_answer.Statement.{statement}
-use Rattle.protocol.proofs.kinds.tls_answer.Tie as tie
+use Rattle.protocol.proofs.tables.tls_answer.Statement.{statement}
+use Rattle.protocol.proofs.tables.tls_answer.Tie as tie
 
 returns : tie.Need-returns
 unfolding the-table

@@ -1,10 +1,10 @@
--- `protocol::kinds::cancel` meets its contract: the table of the code is the rows' lines, which computes.
+-- `protocol::tables::cancel` meets its contract: the table of the code is the rows' lines, which computes.
 use borrow.Author.Needs.{needs}
 use Rattle.protocol.specs.Kinds.{cancel, the-table}
 use Rattle.protocol.specs.Lines.{linesOf}
 use Rattle.protocol.proofs.Lines.{there, behind}
-use Rattle.protocol.proofs.kinds.cancel.Statement.{statement}
-use Rattle.protocol.proofs.kinds.cancel.Tie as tie
+use Rattle.protocol.proofs.tables.cancel.Statement.{statement}
+use Rattle.protocol.proofs.tables.cancel.Tie as tie
 
 returns : tie.Need-returns
 unfolding the-table
