@@ -2,7 +2,7 @@
 use crate::answers;
 use crate::answers::Answer;
 use crate::tables;
-use protocol::kinds;
+use protocol::tables::line_at;
 use test_cases::write;
 use test_cases::write_number;
 
@@ -70,7 +70,7 @@ pub fn every_byte(mode: u8) {
 // A code of modes 2 and 5, the one below it and the one above it. Behind a table's end the code is 0, so 4294967295, 0 and 1 are among them.
 fn code(number: usize) -> u32 {
     let mode = if number % 2 == 0 { 2 } else { 5 };
-    let line = kinds::line_at(mode, number / 6);
+    let line = line_at(mode, number / 6);
     match number / 2 % 3 {
         0 => std::num::wrapping_sub_u32(line.1, 1),
         1 => line.1,
@@ -103,7 +103,7 @@ pub fn codes_around(mode: u8) {
 pub fn no_other_mode() {
     let mut wrong: usize = 0;
     for mode in 6..=255 {
-        let in_table = tables::is_kind(kinds::line_at(mode, 0));
+        let in_table = tables::is_kind(line_at(mode, 0));
         if in_table | !answers::gets(mode, 0, 4, Answer::Refused(1, 0)) {
             wrong = more(wrong);
         }

@@ -1,6 +1,8 @@
 // The tables, line by line, as text; and the line of a type byte, an answer byte or a code.
-use protocol::kinds;
 use protocol::kinds::Line;
+use protocol::tables::NO_KIND;
+use protocol::tables::letters_in;
+use protocol::tables::line_at;
 use test_cases::write;
 use test_cases::write_letter;
 use test_cases::write_number;
@@ -23,18 +25,8 @@ pub fn is_bare(mode: u8) -> bool {
     (mode == 3) | (mode == 4)
 }
 
-// How many letters come before the spaces.
-fn name_len(name: [u8; 20]) -> usize {
-    for i in 0..20 {
-        if name[i] == b' ' {
-            return i;
-        }
-    }
-    20
-}
-
 fn write_name(name: [u8; 20]) {
-    let len = name_len(name);
+    let len = letters_in(name);
     write(decode::part(&name, 0, len));
 }
 
@@ -64,7 +56,7 @@ fn write_line(mode: u8, line: Line) {
 
 fn write_table(mode: u8) {
     for index in 0..MOST {
-        let line = kinds::line_at(mode, index);
+        let line = line_at(mode, index);
         if !is_kind(line) {
             return;
         }
@@ -82,7 +74,7 @@ pub fn write_tables() {
 // The mode's line with this type byte, answer byte or code, or the line of no kind.
 pub fn find(mode: u8, tag: u32) -> Line {
     for index in 0..MOST {
-        let line = kinds::line_at(mode, index);
+        let line = line_at(mode, index);
         if !is_kind(line) {
             return line;
         }
@@ -90,5 +82,5 @@ pub fn find(mode: u8, tag: u32) -> Line {
             return line;
         }
     }
-    kinds::NO_KIND
+    NO_KIND
 }
