@@ -50,7 +50,7 @@ enum tusweram_mode {
                               request for encryption comes another */
 };
 
-/* Kinds, with their fields from out[5] on. */
+/* Kinds, with their fields from out[5] on; the numbers are those of crates/protocol/src/kinds.rt, and .ci/kinds compares. */
 enum tusweram_kind {
     TUSWERAM_PARSE = 1,                  /* part name, part query, list of oids */
     TUSWERAM_BIND = 2,                   /* part portal, part statement, list of formats, list of values, list of result formats */

@@ -17,7 +17,7 @@ pub const READY_STATUS_TRANSACTION_BLOCK: u8 = b'T';
 /// The status of ReadyForQuery: in a failed transaction.
 pub const READY_STATUS_FAILED_TRANSACTION_BLOCK: u8 = b'E';
 
-// The kinds' numbers at the boundary, as crates/protocol/specs/Kinds.antt has them.
+// The kinds' numbers at the boundary, as crates/protocol/src/kinds.rt has them; .ci/kinds compares.
 pub(crate) mod kind {
     pub const PARSE: usize = 1;
     pub const BIND: usize = 2;
