@@ -46,7 +46,7 @@ fn name_of(message: Message) -> [u8; 20]
     }
 }
 
-// Of a kind whose record holds nothing.
+// Of a kind whose record holds nothing. The last arm has the one that the others leave.
 fn empty_name(message: Message) -> [u8; 20]
     requires { ⌜ T (holdsNothing (view message .kind)) ⌝ }
     ensures { λ r. ⌜ r ≡ filled 20 (nameOf message) ⌝ }
