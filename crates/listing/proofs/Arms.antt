@@ -14,7 +14,7 @@ use Rattle.protocol.specs.Views.{view, kindNumber, numbered}
 use Rattle.protocol.proofs.Find.{All}
 use Rattle.protocol.proofs.Lines.{same, same-is}
 use Rattle.protocol.proofs.Message as Msg
-use Rattle.protocol.proofs.Views.{each-row, places, passes}
+use Rattle.protocol.proofs.Views.{each-row, places, Placed, passes}
 use Rattle.listing.specs.Names.{holdsNothing}
 
 -- told by the arm which kind it is
@@ -22,9 +22,12 @@ pub arm : {m k : Message} {name : List ℕ} → m ≡ k → name ≡ filled 20 (
 arm e n = rw e n
 
 -- what is left to the last arm where each kind with fields has its own
-pub left-empty : (m : Message) → OneOf (places holdsNothing) (tagOf Msg.the-type m) → T (holdsNothing (view m .kind))
+empty-placed : All (λ (m : Mode). All (Placed holdsNothing) (m .kinds)) modes
 unfolding the-table find numbered
-left-empty m h = passes holdsNothing (search tt depth 60 fits 5000, search tt depth 60 fits 5000) m h
+empty-placed = search tt depth 60 fits 5000
+
+pub left-empty : (m : Message) → OneOf (places holdsNothing) (tagOf Msg.the-type m) → T (holdsNothing (view m .kind))
+left-empty m h = passes holdsNothing empty-placed m h
 
 -- and of these, where each but the last has its own
 abbrev lastLeft : Kind → Bool
