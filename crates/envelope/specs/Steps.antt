@@ -25,7 +25,7 @@ use Rattle.envelope.specs.declared.Header.{Header}
 
 -- ---- the envelope
 
--- the length's checks. The length word stands at p, and there are `have` bytes
+-- the length's checks by a line's smallest length, .2, and its limit, .3. The length word stands at p, and there are `have` bytes
 unfoldable pub endOf : Line → ℕ → ℕ → ℤ → Header
 endOf l p have (negsuc n) = H.Refused lengthTooSmall p
 endOf l p have (pos n) =

@@ -31,7 +31,8 @@ pub enum Header {
     Refused(u8, usize),
 }
 
-// The length's checks. The length word stands at `place`, and counts itself and all that follows it; `have` bytes are there.
+// The length's checks by a line: `line.2` is the smallest length, `line.3` the limit. The length word stands at `place`, and counts itself and all that
+// follows it; `have` bytes are there.
 fn frame_end(length: u32, line: Line, place: u8, have: usize) -> Header
     ensures { λ r. ⌜ r ≡ endOf line place have (signedOf 4 «length») ⌝ }
 {
