@@ -1,5 +1,5 @@
-// The tables of kinds as the code holds them, printed line by line; and decoding, held to them: every type byte, answer byte and code, whether a table has
-// it or not, with lengths at each kind's bounds and one past them. stdout is written by hand from docs/FORMAT.md 4 and the numbers of
+// The tables of kinds as the code holds them, printed line by line; and decoding, held to them: every type byte and answer byte, and the codes with their
+// neighbours, at each kind's smallest length and limit and one past them. stdout is written by hand from docs/FORMAT.md 4 and the numbers of
 // protocol/specs Kinds, and .ci/kinds holds to it every other place that says the same.
 mod answers;
 mod checks;
