@@ -8,6 +8,8 @@ use mathlib.Core.List.{List, [], _∷_, map}
 use mathlib.Core.Option.{Option, some, none}
 use mathlib.Core.Path.{_≡_}
 use lib.IntN.{ℤ, pos}
+use Rattle.protocol.specs.declared.Count.the-variants as C
+use Rattle.protocol.specs.declared.Count.{Count}
 use Rattle.protocol.specs.declared.Element.the-variants as E
 use Rattle.protocol.specs.declared.Element.{Element}
 use Rattle.protocol.specs.declared.List.{List as ListSlot}
@@ -18,7 +20,7 @@ use Rattle.protocol.specs.declared.response.GssEncResponse.the-variants as Gss
 use Rattle.protocol.specs.declared.response.SslResponse.the-variants as Ssl
 use Rattle.protocol.specs.Each.{Each}
 use Rattle.protocol.specs.Fields as F
-use Rattle.protocol.specs.Fields.{Atom, AtomSlot, Item, signedCount, Field, Slot}
+use Rattle.protocol.specs.Fields.{Atom, AtomSlot, Item, Field, Slot}
 use Rattle.protocol.specs.Kinds.{Envelope, typed, untyped, bare, Kind, Mode, tlsAnswer, gssAnswer, IsIn}
 
 infix 80 _∶_ _≔_
@@ -37,10 +39,11 @@ pub record Thing : Type 0 where
 abbrev pub _∶_ : String → Wire → Thing
 name ∶ wire = record { name = name; wire = wire }
 
--- a field: one thing; n, a signed count, and n items of some things each; or such items until a zero byte stands in place of one
+-- a field: one thing; n, a count that stands on the wire as said, and n items of some things each; or such items until a zero byte stands in
+-- place of one
 pub data Column : Type 0 where
   one : Thing → Column
-  n : String → List Thing → Column
+  n : Wire → String → List Thing → Column
   untilZero : String → List Thing → Column
 
 pub record Line : Type 0 where
@@ -72,8 +75,8 @@ targets = byteOf (code "S" ∷ code "P" ∷ [])
 abbrev statuses : Wire
 statuses = byteOf (code "I" ∷ code "T" ∷ code "E" ∷ [])
 
-abbrev formats : String → Column
-formats name = n name ("format" ∶ i 16 ∷ [])
+abbrev formats : Wire → String → Column
+formats count name = n count name ("format" ∶ i 16 ∷ [])
 
 abbrev errors : Column
 errors = untilZero "fields" ("code" ∶ u 8 ∷ "string" ∶ string ∷ [])
@@ -86,13 +89,13 @@ key = one ("pid" ∶ i 32) ∷ one ("secret_key" ∶ i 32) ∷ []
 
 abbrev pub frontend : List Line
 frontend =
-    line "Parse" "P" 8 L (one ("name" ∶ string) ∷ one ("query" ∶ string) ∷ n "type_oids" ("oid" ∶ u 32 ∷ []) ∷ [])
+    line "Parse" "P" 8 L (one ("name" ∶ string) ∷ one ("query" ∶ string) ∷ n (u 16) "type_oids" ("oid" ∶ u 32 ∷ []) ∷ [])
     ∷ line "Bind" "B" 12 L
     (one ("portal_name" ∶ string)
     ∷ one ("statement_name" ∶ string)
-    ∷ formats "parameter_format_codes"
-    ∷ n "parameters" ("value" ∶ value ∷ [])
-    ∷ formats "result_column_format_codes"
+    ∷ formats (u 16) "parameter_format_codes"
+    ∷ n (u 16) "parameters" ("value" ∶ value ∷ [])
+    ∷ formats (u 16) "result_column_format_codes"
     ∷ [])
     ∷ line "Close" "C" 6 house (one ("target_type" ∶ targets) ∷ one ("name" ∶ string) ∷ [])
     ∷ line "Describe" "D" 6 house (one ("target_type" ∶ targets) ∷ one ("name" ∶ string) ∷ [])
@@ -116,7 +119,7 @@ backend =
     ∷ line "EmptyQueryResponse" "I" 4 house []
     ∷ line "CopyDone" "c" 4 house []
     ∷ line "RowDescription" "T" 6 L
-    (n "fields"
+    (n (i 16) "fields"
     ("name" ∶ string
     ∷ "table_id" ∶ i 32
     ∷ "column_id" ∶ i 16
@@ -126,15 +129,15 @@ backend =
     ∷ "format_code" ∶ i 16
     ∷ [])
     ∷ [])
-    ∷ line "ParameterDescription" "t" 6 L (n "types" ("oid" ∶ u 32 ∷ []) ∷ [])
-    ∷ line "DataRow" "D" 6 L (n "data" ("value" ∶ value ∷ []) ∷ [])
+    ∷ line "ParameterDescription" "t" 6 L (n (u 16) "types" ("oid" ∶ u 32 ∷ []) ∷ [])
+    ∷ line "DataRow" "D" 6 L (n (i 16) "data" ("value" ∶ value ∷ []) ∷ [])
     ∷ line "CommandComplete" "C" 5 house (one ("tag" ∶ string) ∷ [])
     ∷ line "ReadyForQuery" "Z" 5 house (one ("status" ∶ statuses) ∷ [])
     ∷ line "ErrorResponse" "E" 5 L (errors ∷ [])
     ∷ line "NoticeResponse" "N" 5 L (errors ∷ [])
-    ∷ line "CopyInResponse" "G" 7 house (one ("format" ∶ i 8) ∷ formats "column_formats" ∷ [])
-    ∷ line "CopyOutResponse" "H" 7 house (one ("format" ∶ i 8) ∷ formats "column_formats" ∷ [])
-    ∷ line "CopyBothResponse" "W" 7 house (one ("format" ∶ i 8) ∷ formats "column_formats" ∷ [])
+    ∷ line "CopyInResponse" "G" 7 house (one ("format" ∶ i 8) ∷ formats (i 16) "column_formats" ∷ [])
+    ∷ line "CopyOutResponse" "H" 7 house (one ("format" ∶ i 8) ∷ formats (i 16) "column_formats" ∷ [])
+    ∷ line "CopyBothResponse" "W" 7 house (one ("format" ∶ i 8) ∷ formats (i 16) "column_formats" ∷ [])
     ∷ line "NotificationResponse" "A" 10 L (one ("pid" ∶ i 32) ∷ one ("channel" ∶ string) ∷ one ("payload" ∶ string) ∷ [])
     ∷ line "CopyData" "d" 4 L (one ("data" ∶ rest) ∷ [])
     ∷ line "ParameterStatus" "S" 6 house (one ("name" ∶ string) ∷ one ("value" ∶ string) ∷ [])
@@ -306,9 +309,13 @@ things (a ∷ xs) (name ∷ names) = name ∶ wireOf a ∷ things xs names
 abbrev pub itemNames : Item → List String
 itemNames item = namesOf (elementFields (item .element (blankAtoms (item .atoms))))
 
+abbrev countWire : Count → Wire
+countWire C.Signed = i 16
+countWire C.Unsigned = u 16
+
 abbrev column : Field → String → Column
 column (F.one a) name = one (name ∶ wireOf a)
-column (F.counted signedCount item) name = n name (things (item .atoms) (itemNames item))
+column (F.counted k item) name = n (countWire k) name (things (item .atoms) (itemNames item))
 column (F.ended item) name = untilZero name (things (item .atoms) (itemNames item))
 
 abbrev columns : List Field → List String → List Column

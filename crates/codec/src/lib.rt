@@ -5,24 +5,22 @@ ghost use Prim.Native.Nat.{_+_, _*_, _/_, _%_, _≤_, _<_};
 ghost use mathlib.Core.Path.{_≡_};
 ghost use lib.ListN.{getD, length};
 ghost use Rattle.protocol.specs.Bytes.{numberAt, signedOf};
-ghost use Rattle.protocol.specs.Fields.{signedCount, text};
+ghost use Rattle.protocol.specs.Fields.{text};
 ghost use Rattle.protocol.specs.Kinds.{formats, nullable, oids, values};
 ghost use Rattle.protocol.specs.Reading.{got, passItems, read, readAtom, readCount, readNumber, readRest, readValue};
 ghost use Rattle.codec.specs.CursorRead.{byteRead, halfRead, listedRead, passedRead, textRead, valueRead, wordRead};
 ghost use Rattle.codec.specs.Fixed.{readFixed};
 ghost use Rattle.codec.specs.Words.{WordsEnd};
+use protocol::Count;
 use protocol::List;
 use protocol::Rules;
 use protocol::Span;
 use protocol::kinds::LONGEST;
-use protocol::kinds::MOST_SIGNED;
+use protocol::most_of;
 use protocol::refusal::BAD_COUNT;
 use protocol::refusal::CUT;
 use protocol::refusal::NOT_ALLOWED;
 use scan::zero_from;
-
-// The most elements of a list, as its count has them.
-const MOST: u16 = MOST_SIGNED as u16;
 
 pub struct Cursor {
     pub at: usize,
@@ -242,19 +240,19 @@ impl Cursor {
         }
     }
 
-    // The count of a list whose elements have at least `least` bytes each. The list starts after it.
-    pub fn count(self, frame: &[u8], least: u8) -> Listed
-        ensures { λ r. ⌜ listedRead r ≡ readCount signedCount least (now (frame .entry)) (self .at) ⌝ }
+    // The count of a list, read as it says, whose elements have at least `least` bytes each. The list starts after it.
+    pub fn count(self, reading: Count, frame: &[u8], least: u8) -> Listed
+        ensures { λ r. ⌜ listedRead r ≡ readCount reading least (now (frame .entry)) (self .at) ⌝ }
     {
         let at = self.at;
         let Half::Is(count, c) = self.half(frame) else {
             return Listed::Refused(CUT, at);
         };
-        if MOST < count {
-            return Listed::Refused(BAD_COUNT, at);
-        }
         let start = c.at;
         let count = count as usize;
+        if most_of(reading) < count {
+            return Listed::Refused(BAD_COUNT, at);
+        }
         if frame.len() - start < count * (least as usize) {
             return Listed::Refused(BAD_COUNT, at);
         }
@@ -262,10 +260,10 @@ impl Cursor {
     }
 
     // A list whose elements have `size` bytes each is passed by arithmetic.
-    fn fixed(self, frame: &[u8], size: u8) -> Listed
-        ensures { λ r. ⌜ listedRead r ≡ readFixed size (now (frame .entry)) (self .at) ⌝ }
+    fn fixed(self, reading: Count, frame: &[u8], size: u8) -> Listed
+        ensures { λ r. ⌜ listedRead r ≡ readFixed reading size (now (frame .entry)) (self .at) ⌝ }
     {
-        let counted = self.count(frame, size);
+        let counted = self.count(reading, frame, size);
         let Listed::Is(list, c) = counted else {
             return counted;
         };
@@ -279,16 +277,16 @@ impl Cursor {
         )
     }
 
-    pub fn oids(self, rules: Rules, frame: &[u8]) -> Listed
-        ensures { λ r. ⌜ listedRead r ≡ read rules oids (now (frame .entry)) (self .at) ⌝ }
+    pub fn oids(self, rules: Rules, reading: Count, frame: &[u8]) -> Listed
+        ensures { λ r. ⌜ listedRead r ≡ read rules (oids reading) (now (frame .entry)) (self .at) ⌝ }
     {
-        self.fixed(frame, 4)
+        self.fixed(reading, frame, 4)
     }
 
-    pub fn formats(self, rules: Rules, frame: &[u8]) -> Listed
-        ensures { λ r. ⌜ listedRead r ≡ read rules formats (now (frame .entry)) (self .at) ⌝ }
+    pub fn formats(self, rules: Rules, reading: Count, frame: &[u8]) -> Listed
+        ensures { λ r. ⌜ listedRead r ≡ read rules (formats reading) (now (frame .entry)) (self .at) ⌝ }
     {
-        self.fixed(frame, 2)
+        self.fixed(reading, frame, 2)
     }
 
     // Past a value. Most are there and whole, which one comparison tells: a negative length is never below `ends`.
@@ -331,10 +329,10 @@ impl Cursor {
     }
 
     // Every value is checked.
-    pub fn values(self, rules: Rules, frame: &[u8]) -> Listed
-        ensures { λ r. ⌜ listedRead r ≡ read rules values (now (frame .entry)) (self .at) ⌝ }
+    pub fn values(self, rules: Rules, reading: Count, frame: &[u8]) -> Listed
+        ensures { λ r. ⌜ listedRead r ≡ read rules (values reading) (now (frame .entry)) (self .at) ⌝ }
     {
-        let counted = self.count(frame, 4);
+        let counted = self.count(reading, frame, 4);
         let Listed::Is(list, c) = counted else {
             return counted;
         };

@@ -11,7 +11,7 @@ use lib.ListN.{length, getD, length-append}
 use Rattle.protocol.specs.Bytes.{noZero, isOneOf}
 use Rattle.protocol.specs.Each.{ableEach, bytesOfEach}
 use Rattle.protocol.specs.Encode.{items, valuesGiven, errorFieldsGiven, pairsGiven, textsGiven}
-use Rattle.protocol.specs.Fields.{most, signedCount}
+use Rattle.protocol.specs.Fields.{most, signedCount, unsignedCount}
 use Rattle.protocol.specs.Kinds as K
 use Rattle.protocol.specs.WellFormed.{bodyBytes}
 use Rattle.writers.specs.Given.{isSome, named}
@@ -24,7 +24,7 @@ use Rattle.writers.proofs.ValueLaws.{able-values, length-values}
 use Rattle.encode.specs.Given as G
 
 pub parse : (name query oids : List ℕ)
-    → Measured K.frontend K.parse (G.parse name query oids) K.large (noZero name && (noZero query && leb (length oids) (most signedCount))) (length name + length query + 4 * length oids + 4)
+    → Measured K.frontend K.parse (G.parse name query oids) K.large (noZero name && (noZero query && leb (length oids) (most unsignedCount))) (length name + length query + 4 * length oids + 4)
 unfolding K.frontend K.parse G.parse ableEach bodyBytes bytesOfEach
 parse name query oids =
     measured K.frontend K.parse (name, (query, (items oids, tt))) refl refl
@@ -61,7 +61,7 @@ formatted tag format formats =
     (simp (length-append, length-signed, length-formats) (omega arith))
 
 pub parameterDescription : (types : List ℕ)
-    → Measured K.backend K.parameterDescription (G.parameterDescription types) K.large (leb (length types) (most signedCount)) (4 * length types + 2)
+    → Measured K.backend K.parameterDescription (G.parameterDescription types) K.large (leb (length types) (most unsignedCount)) (4 * length types + 2)
 unfolding K.backend K.parameterDescription G.parameterDescription ableEach bodyBytes bytesOfEach
 parameterDescription types =
     measured K.backend K.parameterDescription (items types, tt) refl refl
@@ -113,21 +113,21 @@ texted tag s =
 
 pub bind : (portal statement : List ℕ) (formats lengths : List ℤ) (joined : List ℕ) (results : List ℤ)
     → Measured K.frontend K.bind (G.bind portal statement formats lengths joined results) K.large
-    (isSome (valuesGiven lengths joined) && (noZero portal && (noZero statement && (leb (length formats) (most signedCount) && (leb (length lengths) (most signedCount) && leb (length results) (most signedCount))))))
+    (isSome (valuesGiven lengths joined) && (noZero portal && (noZero statement && (leb (length formats) (most unsignedCount) && (leb (length lengths) (most unsignedCount) && leb (length results) (most unsignedCount))))))
     (length portal + length statement + 2 * length formats + 4 * length lengths + length joined + 2 * length results + 8)
 unfolding K.frontend K.bind G.bind ableEach bodyBytes bytesOfEach
 bind portal statement formats lengths joined results =
     measured-given K.bind (λ vs. (portal, (statement, (items formats, (vs, (items results, tt)))))) K.frontend (valuesGiven lengths joined) refl refl
-    (λ vs is. rw (able-values _ lengths joined vs is) (simp (able-text, able-formats, and-true) refl))
-    (λ vs is. simp (length-append, length-text, length-formats) (omega (arith, length-values lengths joined vs is)))
+    (λ vs is. rw (able-values _ _ lengths joined vs is) (simp (able-text, able-formats, and-true) refl))
+    (λ vs is. simp (length-append, length-text, length-formats) (omega (arith, length-values _ lengths joined vs is)))
 
 pub dataRow : (lengths : List ℤ) (joined : List ℕ)
     → Measured K.backend K.dataRow (G.dataRow lengths joined) K.large (isSome (valuesGiven lengths joined) && leb (length lengths) (most signedCount)) (length joined + 4 * length lengths + 2)
 unfolding K.backend K.dataRow G.dataRow ableEach bodyBytes bytesOfEach
 dataRow lengths joined =
     measured-given K.dataRow (λ vs. (vs, tt)) K.backend (valuesGiven lengths joined) refl refl
-    (λ vs is. rw (able-values _ lengths joined vs is) (and-true (leb (length lengths) (most signedCount))))
-    (λ vs is. simp length-append (omega (arith, length-values lengths joined vs is)))
+    (λ vs is. rw (able-values _ _ lengths joined vs is) (and-true (leb (length lengths) (most signedCount))))
+    (λ vs is. simp length-append (omega (arith, length-values _ lengths joined vs is)))
 
 -- codes are bytes
 pub reported : (tag : ℕ) (codes lengths joined : List ℕ) → ((i : ℕ) → getD codes i 0 < 256)

@@ -10,7 +10,7 @@ use Rattle.protocol.specs.declared.response.GssEncResponse.{GssEncResponse}
 use Rattle.protocol.specs.declared.response.SslResponse.the-variants as Ssl
 use Rattle.protocol.specs.declared.response.SslResponse.{SslResponse}
 use Rattle.protocol.specs.Encode.{items, valuesGiven, errorFieldsGiven, pairsGiven, rowFieldsGiven, sslKind, gssKind}
-use Rattle.protocol.specs.Fields.{Field}
+use Rattle.protocol.specs.Fields.{signedCount, Field}
 use Rattle.protocol.specs.Kinds as K
 use Rattle.protocol.specs.Kinds.{Kind}
 use Rattle.protocol.specs.WellFormed.{Contents}
@@ -46,7 +46,7 @@ abbrev pub aimed : ℕ → Kind
 aimed = shaped 6 (K.target ∷ K.string ∷ [])
 
 abbrev pub formatted : ℕ → Kind
-formatted = shaped 7 (K.i8 ∷ K.formats ∷ [])
+formatted = shaped 7 (K.i8 ∷ K.formats signedCount ∷ [])
 
 abbrev pub textOf : (tag : ℕ) → List ℕ → Given (texted tag)
 textOf tag s = some (s, tt)

@@ -4,7 +4,7 @@ ghost use mathlib.Core.Bool.{true};
 ghost use mathlib.Core.Path.{_≡_};
 ghost use lib.ListN.{length};
 ghost use Rattle.protocol.specs.Encode.{Encodes, valuesGiven};
-ghost use Rattle.protocol.specs.Fields.{most, signedCount};
+ghost use Rattle.protocol.specs.Fields.{most, signedCount, unsignedCount};
 ghost use Rattle.protocol.specs.Kinds as K;
 ghost use Rattle.writers.specs.Given.{isSome};
 ghost use Rattle.writers.specs.Writing.{WroteFrame};
@@ -18,6 +18,7 @@ use protocol::data::MESSAGE_TYPE_BYTE_NO_DATA;
 use protocol::data::MESSAGE_TYPE_BYTE_PARAMETER_DESCRITION;
 use protocol::kinds::LARGE;
 use protocol::kinds::MOST_SIGNED;
+use protocol::kinds::MOST_UNSIGNED;
 use row_fields::Pass;
 use row_fields::begin;
 use row_fields::each;
@@ -45,7 +46,7 @@ pub fn row_description(fields: &[FieldDescription], run: &[u8], out: &mut [u8]) 
 }
 
 fn write_parameter_description(types: &[u32], n: usize, out: &mut [u8])
-    requires { ⌜ (n ≡ 4 * length (now types) + 7) × (n ≤ length (now out)) × (n ≤ K.largeFrame) × (length (now types) ≤ most signedCount) ⌝ }
+    requires { ⌜ (n ≡ 4 * length (now types) + 7) × (n ≤ length (now out)) × (n ≤ K.largeFrame) × (length (now types) ≤ most unsignedCount) ⌝ }
     ensures { λ r. ⌜ WroteFrame K.typed K.parameterDescription (G.parameterDescription (now (types .entry))) (now (out .entry)) (now (out .exit)) ⌝ }
 {
     let at = put_head(out, MESSAGE_TYPE_BYTE_PARAMETER_DESCRITION, n);
@@ -55,7 +56,7 @@ fn write_parameter_description(types: &[u32], n: usize, out: &mut [u8])
 pub fn parameter_description(types: &[u32], out: &mut [u8]) -> Encoded
     ensures { λ r. ⌜ Encodes K.backend K.parameterDescription (G.parameterDescription (now (types .entry))) (now (out .entry)) r (now (out .exit)) ⌝ }
 {
-    let able = types.len() <= MOST_SIGNED;
+    let able = types.len() <= MOST_UNSIGNED;
     let size = types.len() * 4 + 6;
     let r = verdict(able, LARGE, size, out.len());
     let Encoded::Done(n) = r else {

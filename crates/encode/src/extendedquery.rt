@@ -6,7 +6,7 @@ ghost use lib.IntN.{ℤ};
 ghost use lib.ListN.{length};
 ghost use Rattle.protocol.specs.Bytes.{bitsOf};
 ghost use Rattle.protocol.specs.Encode.{Encodes, valuesGiven};
-ghost use Rattle.protocol.specs.Fields.{most, signedCount};
+ghost use Rattle.protocol.specs.Fields.{most, unsignedCount};
 ghost use Rattle.protocol.specs.Kinds as K;
 ghost use Rattle.writers.specs.Given.{isSome};
 ghost use Rattle.writers.specs.Writing.{WroteFrame};
@@ -27,7 +27,7 @@ use protocol::extendedquery::MESSAGE_TYPE_BYTE_PORTAL_SUSPENDED;
 use protocol::extendedquery::MESSAGE_TYPE_BYTE_SYNC;
 use protocol::extendedquery::is_target;
 use protocol::kinds::LARGE;
-use protocol::kinds::MOST_SIGNED;
+use protocol::kinds::MOST_UNSIGNED;
 use protocol::kinds::SMALL;
 use writers::bits32;
 use writers::no_zero;
@@ -43,7 +43,7 @@ use writers::values::values_given;
 use writers::verdict;
 
 fn write_parse(name: &[u8], query: &[u8], type_oids: &[u32], n: usize, out: &mut [u8])
-    requires { ⌜ (n ≡ length (now name) + length (now query) + 4 * length (now «type_oids») + 9) × (n ≤ length (now out)) × (n ≤ K.largeFrame) × (length (now «type_oids») ≤ most signedCount) ⌝ }
+    requires { ⌜ (n ≡ length (now name) + length (now query) + 4 * length (now «type_oids») + 9) × (n ≤ length (now out)) × (n ≤ K.largeFrame) × (length (now «type_oids») ≤ most unsignedCount) ⌝ }
     ensures { λ r. ⌜ WroteFrame K.typed K.parse (G.parse (now (name .entry)) (now (query .entry)) (now («type_oids» .entry))) (now (out .entry)) (now (out .exit)) ⌝ }
 {
     let at = put_head(out, MESSAGE_TYPE_BYTE_PARSE, n);
@@ -55,7 +55,7 @@ fn write_parse(name: &[u8], query: &[u8], type_oids: &[u32], n: usize, out: &mut
 pub fn parse(name: &[u8], query: &[u8], type_oids: &[u32], out: &mut [u8]) -> Encoded
     ensures { λ r. ⌜ Encodes K.frontend K.parse (G.parse (now (name .entry)) (now (query .entry)) (now («type_oids» .entry))) (now (out .entry)) r (now (out .exit)) ⌝ }
 {
-    let able = no_zero(name) & (no_zero(query) & (type_oids.len() <= MOST_SIGNED));
+    let able = no_zero(name) & (no_zero(query) & (type_oids.len() <= MOST_UNSIGNED));
     let size = plus4(name.len(), query.len(), type_oids.len() * 4, 8);
     let r = verdict(able, LARGE, size, out.len());
     let Encoded::Done(n) = r else {
@@ -75,7 +75,7 @@ fn write_bind(
     n: usize,
     out: &mut [u8],
 )
-    requires { ⌜ (n ≡ length (now «portal_name») + length (now «statement_name») + 2 * length (now «parameter_format_codes») + 4 * length (now lengths) + length (now joined) + 2 * length (now «result_column_format_codes») + 13) × (n ≤ length (now out)) × (n ≤ K.largeFrame) × (length (now «parameter_format_codes») ≤ most signedCount) × (length (now lengths) ≤ most signedCount) × (length (now «result_column_format_codes») ≤ most signedCount) × (isSome (valuesGiven (now lengths) (now joined)) ≡ true) ⌝ }
+    requires { ⌜ (n ≡ length (now «portal_name») + length (now «statement_name») + 2 * length (now «parameter_format_codes») + 4 * length (now lengths) + length (now joined) + 2 * length (now «result_column_format_codes») + 13) × (n ≤ length (now out)) × (n ≤ K.largeFrame) × (length (now «parameter_format_codes») ≤ most unsignedCount) × (length (now lengths) ≤ most unsignedCount) × (length (now «result_column_format_codes») ≤ most unsignedCount) × (isSome (valuesGiven (now lengths) (now joined)) ≡ true) ⌝ }
     ensures { λ r. ⌜ WroteFrame K.typed K.bind (G.bind (now («portal_name» .entry)) (now («statement_name» .entry)) (now («parameter_format_codes» .entry)) (now (lengths .entry)) (now (joined .entry)) (now («result_column_format_codes» .entry))) (now (out .entry)) (now (out .exit)) ⌝ }
 {
     let at = put_head(out, MESSAGE_TYPE_BYTE_BIND, n);
@@ -97,8 +97,8 @@ pub fn bind(
 ) -> Encoded
     ensures { λ r. ⌜ Encodes K.frontend K.bind (G.bind (now («portal_name» .entry)) (now («statement_name» .entry)) (now («parameter_format_codes» .entry)) (now (lengths .entry)) (now (joined .entry)) (now («result_column_format_codes» .entry))) (now (out .entry)) r (now (out .exit)) ⌝ }
 {
-    let few = (parameter_format_codes.len() <= MOST_SIGNED)
-        & ((lengths.len() <= MOST_SIGNED) & (result_column_format_codes.len() <= MOST_SIGNED));
+    let few = (parameter_format_codes.len() <= MOST_UNSIGNED)
+        & ((lengths.len() <= MOST_UNSIGNED) & (result_column_format_codes.len() <= MOST_UNSIGNED));
     let able = values_given(lengths, joined)
         & (no_zero(portal_name) & (no_zero(statement_name) & few));
     let lists = plus4(

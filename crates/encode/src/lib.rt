@@ -14,7 +14,7 @@ ghost use mathlib.Core.Option.{some};
 ghost use mathlib.Core.Path.{_≡_};
 ghost use lib.ListN.{length};
 ghost use Rattle.protocol.specs.Encode.{Encodes, valuesGiven};
-ghost use Rattle.protocol.specs.Fields.{most, signedCount};
+ghost use Rattle.protocol.specs.Fields.{most, unsignedCount};
 ghost use Rattle.protocol.specs.Kinds.{frontend, smallFrame, typed, values};
 ghost use Rattle.writers.specs.Given.{isSome};
 ghost use Rattle.writers.specs.Writing.{WroteFrame};
@@ -77,8 +77,8 @@ fn one_text(type_byte: u8, s: &[u8], out: &mut [u8]) -> Encoded
 
 // Their count; then the length of each, and its bytes.
 fn put_values(out: &mut [u8], at: usize, lengths: &[i32], joined: &[u8]) -> usize
-    requires { ⌜ (at + 4 * length (now lengths) + length (now joined) + 2 ≤ length (now out)) × (length (now lengths) ≤ most signedCount) × (isSome (valuesGiven (now lengths) (now joined)) ≡ true) ⌝ }
-    ensures { λ r. ⌜ WroteGiven values (valuesGiven (now (lengths .entry)) (now (joined .entry))) (now (out .entry)) at (2 + (4 * length (now (lengths .entry)) + length (now (joined .entry)))) (now (out .exit)) r ⌝ }
+    requires { ⌜ (at + 4 * length (now lengths) + length (now joined) + 2 ≤ length (now out)) × (length (now lengths) ≤ most unsignedCount) × (isSome (valuesGiven (now lengths) (now joined)) ≡ true) ⌝ }
+    ensures { λ r. ⌜ WroteGiven (values unsignedCount) (valuesGiven (now (lengths .entry)) (now (joined .entry))) (now (out .entry)) at (2 + (4 * length (now (lengths .entry)) + length (now (joined .entry)))) (now (out .exit)) r ⌝ }
 {
     let mut p = put_half(out, at, lengths.len() as u16);
     let mut i = 0;

@@ -1,5 +1,6 @@
 // The fields of a row's description, as in data.rs.
 ghost use mathlib.Core.Path.{_≡_};
+ghost use Rattle.protocol.specs.Fields.{signedCount};
 ghost use Rattle.protocol.specs.Kinds as K;
 ghost use Rattle.protocol.specs.Reading.{andThen, got, passItems, read, readItem};
 ghost use Rattle.codec.specs.CursorRead.{listedRead, passedRead};
@@ -12,6 +13,7 @@ use codec::Text;
 use codec::Word;
 use codec::signed16;
 use codec::signed32;
+use protocol::Count;
 use protocol::Rules;
 use protocol::data::FieldDescription;
 use protocol::refusal::CUT;
@@ -86,9 +88,9 @@ pub fn pass_fields(rules: Rules, frame: &[u8], c: Cursor, count: usize) -> Passe
 
 // Every field is checked. The smallest has an empty name: 19 bytes.
 pub fn fields(rules: Rules, frame: &[u8], c: Cursor) -> Listed
-    ensures { λ r. ⌜ listedRead r ≡ read rules K.rowFields (now (frame .entry)) (c .at) ⌝ }
+    ensures { λ r. ⌜ listedRead r ≡ read rules (K.rowFields signedCount) (now (frame .entry)) (c .at) ⌝ }
 {
-    let counted = c.count(frame, 19);
+    let counted = c.count(Count::Signed, frame, 19);
     let Listed::Is(list, c) = counted else {
         return counted;
     };

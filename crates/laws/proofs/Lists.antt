@@ -10,24 +10,21 @@ use lib.Dec.{T, leb, leb→le, eqb}
 use lib.IntN.{pos}
 use lib.ListN.{length, drop, length-append}
 use lib.Signed.{mag}
+use Rattle.protocol.specs.declared.Count.the-variants as C
+use Rattle.protocol.specs.declared.Count.{Count}
 use Rattle.protocol.specs.declared.List.{List as ListSlot}
 use Rattle.protocol.specs.declared.Rules.{Rules}
 use Rattle.protocol.specs.Bytes.{Bytes, be, signedOf, bitsOf}
 use Rattle.protocol.specs.Each.{Each}
-use Rattle.protocol.specs.Fields.{AtomSlot, Item, ItemContent, itemBytes, itemLeast, itemsBytes, ItemsInRange, itemsAble, zeroFirst, noneEnds, Count, signedCount, countOf, most, Field, counted, ended, Slot, InRange, able, bytes, slot}
+use Rattle.protocol.specs.Fields.{AtomSlot, Item, ItemContent, itemBytes, itemLeast, itemsBytes, ItemsInRange, itemsAble, zeroFirst, noneEnds, countOf, most, Field, counted, ended, Slot, InRange, able, bytes, slot}
 use Rattle.protocol.specs.Reading.{Read, got, bad, andThen, readNumber, readItem, passItems, countAt, readCount, readCounted, endedFrom, readEnded, read}
 use Rattle.protocol.proofs.Basics.{zero-one, right-holds}
-use Rattle.protocol.proofs.Counts.{Counted, counted-is}
+use Rattle.protocol.proofs.Counts.{count-back, Counted, counted-is}
 use Rattle.protocol.proofs.Find.{every}
-use Rattle.protocol.proofs.Numbers.{lower}
 use Rattle.laws.proofs.Atoms.{byte-be, number-back, byte-back, number-was}
 use Rattle.laws.proofs.EachReads.{Was}
 use Rattle.laws.proofs.Items.{both, inItem, saneItem, item-bytes, item-back, pass-back, item-least, items-least, ItemWas, ItemsWere, item-was, no-items, item-before, pass-was}
 use Rattle.laws.proofs.Numbers.{length-be, signed-in-range, bits-signed}
-
--- a count that can be written has two bytes and is read as it is
-pub count-back : (k : Count) (n : ℕ) → n ≤ most k → (n < 256 ^ 2) × (countOf k n ≡ pos n)
-count-back signedCount n h = (omega arith, lower 2 n (omega arith))
 
 module _ (rules : Rules) (i : Item) (sane : T (saneItem i)) where
   pub counted-back : (k : Count) (cs : List (ItemContent i)) (pre post : List ℕ) → ItemsInRange i cs → leb (length cs) (most k) && itemsAble rules i cs ≡ true → readCounted rules k i (pre ++ ((be 2 (length cs) ++ itemsBytes i cs) ++ post)) (length pre) ≡ got (record { start = length pre + 2; count = length cs }) (length pre + length (be 2 (length cs) ++ itemsBytes i cs))
@@ -86,10 +83,13 @@ module _ (rules : Rules) (i : Item) (sane : T (saneItem i)) where
 -- a count that was read can be written, and is its bytes
 pub count-was : (k : Count) (bits n : ℕ) → bits < 256 ^ 2 → countOf k bits ≡ pos n → (n ≡ bits) × (n ≤ most k)
 unfolding bitsOf
-count-was signedCount bits n h e =
+count-was C.Signed bits n h e =
     let small : mag (signedOf 2 bits) < 256 ^ 2 / 2 = signed-in-range 1 bits h in
     let less : n < 256 ^ 2 / 2 = rw e at small in
     (ap (bitsOf 2) (sym e) ∙ bits-signed 1 bits h, omega arith)
+count-was C.Unsigned bits n h e =
+    let same : bits ≡ n = cc in
+    (sym same, omega arith)
 
 abbrev pub FieldWas : Rules → (x : Field) → List ℕ → ℕ → Slot x → ℕ → Type 0
 FieldWas rules x f p v q = Was bytes slot (read rules) InRange (able rules) x f p v q

@@ -163,7 +163,7 @@ module _ (rules : Rules) (f : List ℕ) where
   count-by p q l (got l′ q′) c h = pass-by p q q′ l l′ c (passItems rules nullable (l′ .count) f q′) refl h
   count-by p q l (bad number place) c h = absurd (zero-one cc)
 
-  row-by : (p q : ℕ) (s : Each Slot (values ∷ [])) (r : Read ListSlot) → readCounted rules signedCount nullable f p ≡ r → andThen {Y = Each Slot (values ∷ [])} r (λ l e. got (l, tt) e) ≡ got s q → passItems rules nullable (s .0 .count) f (s .0 .start) ≡ got tt q
+  row-by : (p q : ℕ) (s : Each Slot (values signedCount ∷ [])) (r : Read ListSlot) → readCounted rules signedCount nullable f p ≡ r → andThen {Y = Each Slot (values signedCount ∷ [])} r (λ l e. got (l, tt) e) ≡ got s q → passItems rules nullable (s .0 .count) f (s .0 .start) ≡ got tt q
   unfolding readCounted
   row-by p q s (got l e) is h =
       let same : l ≡ s .0 = cc in

@@ -2,7 +2,7 @@
 use mathlib.Core.List.{List, [], _∷_}
 use Rattle.protocol.specs.declared.Message.{Message}
 use Rattle.protocol.specs.Each.{Each}
-use Rattle.protocol.specs.Fields.{Field, Slot}
+use Rattle.protocol.specs.Fields.{signedCount, Field, Slot}
 use Rattle.protocol.specs.Kinds.{target, string, i8, formats, close, describe, copyInResponse, copyOutResponse, copyBothResponse}
 use Rattle.messages.specs.declared.copy.Direction.the-variants as D
 use Rattle.messages.specs.declared.copy.Direction.{Direction}
@@ -20,7 +20,7 @@ aimMessage A.Describe = describe .message
 
 -- a format and the columns' formats: the three copy responses
 abbrev pub copyFields : List Field
-copyFields = i8 ∷ formats ∷ []
+copyFields = i8 ∷ formats signedCount ∷ []
 
 abbrev pub copyMessage : Direction → Each Slot copyFields → Message
 unfolding copyInResponse copyOutResponse copyBothResponse

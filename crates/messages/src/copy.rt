@@ -16,6 +16,7 @@ use envelope::finished;
 use envelope::refused;
 use envelope::typed;
 use envelope::unframed;
+use protocol::Count;
 use protocol::Decoded;
 use protocol::List;
 use protocol::Message;
@@ -103,7 +104,7 @@ fn copy_response(rules: Rules, buf: &[u8], line: Line, direction: Direction) -> 
     let Byte::Is(format, c) = c.byte(frame) else {
         return Decoded::Refused(CUT, c.at);
     };
-    let listed = c.formats(rules, frame);
+    let listed = c.formats(rules, Count::Signed, frame);
     let Listed::Is(column_formats, c) = listed else {
         return refused(listed);
     };

@@ -12,6 +12,7 @@ use envelope::refused;
 use envelope::typed;
 use envelope::unframed;
 use items::data::fields;
+use protocol::Count;
 use protocol::Decoded;
 use protocol::Message;
 use protocol::Rules;
@@ -44,7 +45,7 @@ pub fn parameter_description(rules: Rules, buf: &[u8]) -> Decoded
     };
     let frame = &buf[..end];
     let c = Cursor { at: TYPED_BODY };
-    let listed = c.oids(rules, frame);
+    let listed = c.oids(rules, Count::Unsigned, frame);
     let Listed::Is(types, c) = listed else {
         return refused(listed);
     };
@@ -64,7 +65,7 @@ pub fn data_row(rules: Rules, buf: &[u8]) -> Decoded
     };
     let frame = &buf[..end];
     let c = Cursor { at: TYPED_BODY };
-    let listed = c.values(rules, frame);
+    let listed = c.values(rules, Count::Signed, frame);
     let Listed::Is(data, c) = listed else {
         return refused(listed);
     };

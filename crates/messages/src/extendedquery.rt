@@ -17,6 +17,7 @@ use envelope::finished;
 use envelope::refused;
 use envelope::typed;
 use envelope::unframed;
+use protocol::Count;
 use protocol::Decoded;
 use protocol::Message;
 use protocol::Rules;
@@ -47,7 +48,7 @@ pub fn parse(rules: Rules, buf: &[u8]) -> Decoded
     let Text::Is(query, c) = c.text(rules, frame) else {
         return Decoded::Refused(CUT, c.at);
     };
-    let listed = c.oids(rules, frame);
+    let listed = c.oids(rules, Count::Unsigned, frame);
     let Listed::Is(type_oids, c) = listed else {
         return refused(listed);
     };
@@ -129,15 +130,15 @@ pub fn bind(rules: Rules, buf: &[u8]) -> Decoded
     let Text::Is(statement_name, c) = c.text(rules, frame) else {
         return Decoded::Refused(CUT, c.at);
     };
-    let listed = c.formats(rules, frame);
+    let listed = c.formats(rules, Count::Unsigned, frame);
     let Listed::Is(parameter_format_codes, c) = listed else {
         return refused(listed);
     };
-    let listed = c.values(rules, frame);
+    let listed = c.values(rules, Count::Unsigned, frame);
     let Listed::Is(parameters, c) = listed else {
         return refused(listed);
     };
-    let listed = c.formats(rules, frame);
+    let listed = c.formats(rules, Count::Unsigned, frame);
     let Listed::Is(result_column_format_codes, c) = listed else {
         return refused(listed);
     };

@@ -1,5 +1,5 @@
--- A count that was read, and lists of items that all have one size.
-use Prim.Native.Nat.{ℕ, zero, suc, _+_, _-_, _*_, _≤_, _<_}
+-- Counts by their two readings, a count that was read, and lists of items that all have one size.
+use Prim.Native.Nat.{ℕ, zero, suc, _+_, _-_, _*_, _≤_, _<_, _^_}
 use mathlib.Core.List.{List}
 use mathlib.Core.Path.{_≡_, refl, ap, _∙_, sym}
 use native.Mathlib.Omega.{arith}
@@ -7,13 +7,25 @@ use borrow.Author.Tests.{leb-true}
 use lib.Dec.{leb}
 use lib.IntN.{ℤ, pos, negsuc}
 use lib.ListN.{length}
+use Rattle.protocol.specs.declared.Count.the-variants as C
+use Rattle.protocol.specs.declared.Count.{Count}
 use Rattle.protocol.specs.declared.List.{List as ListSlot}
 use Rattle.protocol.specs.declared.Rules.{Rules}
 use Rattle.protocol.specs.Each.{Each}
-use Rattle.protocol.specs.Fields.{AtomSlot, Item, Count, countOf}
+use Rattle.protocol.specs.Fields.{AtomSlot, Item, countOf, most}
 use Rattle.protocol.specs.Reading.{Read, got, bad, andThen, readNumber, readItem, passItems, countAt, readCount}
 use Rattle.protocol.proofs.Basics.{bad-got, first-chosen}
-use Rattle.protocol.proofs.Numbers.{whole}
+use Rattle.protocol.proofs.Numbers.{lower, upper, whole}
+
+-- a count that can be written has two bytes and is read as it is
+pub count-back : (k : Count) (n : ℕ) → n ≤ most k → (n < 256 ^ 2) × (countOf k n ≡ pos n)
+count-back C.Signed n h = (omega arith, lower 2 n (omega arith))
+count-back C.Unsigned n h = (omega arith, refl)
+
+-- two bytes that are more are negative
+pub count-above : (k : Count) (n : ℕ) → n < 256 ^ 2 → most k < n → (m : ℕ) × (countOf k n ≡ negsuc m)
+count-above C.Signed n w h = (_, upper 2 n (omega arith))
+count-above C.Unsigned n w h = absurd (omega arith)
 
 -- the list starts where the count ends, and that many of its smallest elements fit into what is left
 pub record Counted (k : Count) (least : ℕ) (f : List ℕ) (p : ℕ) (l : ListSlot) (q : ℕ) : Type 0 where

@@ -7,9 +7,11 @@ use mathlib.Core.Bool.{Bool, true, false, not, _&&_}
 use mathlib.Core.List.{List, [], _∷_, _++_}
 use mathlib.Core.Option.{Option, some, none}
 use lib.Dec.{leb, eqb}
-use lib.IntN.{ℤ, negsuc}
+use lib.IntN.{ℤ, pos, negsuc}
 use lib.ListN.{length}
 use lib.Signed.{mag}
+use Rattle.protocol.specs.declared.Count.the-variants as C
+use Rattle.protocol.specs.declared.Count.{Count}
 use Rattle.protocol.specs.declared.Element.{Element}
 use Rattle.protocol.specs.declared.List.{List as ListSlot}
 use Rattle.protocol.specs.declared.Rules.{Rules}
@@ -146,17 +148,22 @@ noneEnds i (c ∷ cs) = not (zeroFirst (itemBytes i c)) && noneEnds i cs
 
 -- ---- fields
 
--- what a count's two bytes mean
-pub data Count : Type 0 where
-  signedCount : Count
+-- how a count's two bytes are read
+abbrev pub signedCount : Count
+signedCount = C.Signed
+
+abbrev pub unsignedCount : Count
+unsignedCount = C.Unsigned
 
 -- the count that its two bytes are
 abbrev pub countOf : Count → ℕ → ℤ
-countOf signedCount n = signedOf 2 n
+countOf C.Signed n = signedOf 2 n
+countOf C.Unsigned n = pos n
 
 -- the largest count that can be written
 abbrev pub most : Count → ℕ
-most signedCount = 32767
+most C.Signed = 32767
+most C.Unsigned = 65535
 
 pub data Field : Type 0 where
   one : Atom → Field  -- an atom

@@ -9,6 +9,7 @@ use mathlib.Core.Logic.{_⊎_}
 use mathlib.Core.Option.{Option, some, none}
 use mathlib.Core.Path.{_≡_}
 use lib.Dec.{eqb}
+use Rattle.protocol.specs.declared.Count.{Count}
 use Rattle.protocol.specs.declared.Element.the-variants as E
 use Rattle.protocol.specs.declared.Element.{Element}
 use Rattle.protocol.specs.declared.Message.{Message}
@@ -16,7 +17,7 @@ use Rattle.protocol.specs.declared.Rules.{Rules}
 use Rattle.protocol.specs.declared.Span.{Span}
 use Rattle.protocol.specs.declared.data.FieldDescription.{FieldDescription}
 use Rattle.protocol.specs.Each.{Each}
-use Rattle.protocol.specs.Fields.{Atom, unsigned, signed, oneOf, text, value, rest, AtomSlot, Item, signedCount, Field, one, counted, ended, Slot}
+use Rattle.protocol.specs.Fields.{Atom, unsigned, signed, oneOf, text, value, rest, AtomSlot, Item, signedCount, unsignedCount, Field, one, counted, ended, Slot}
 use Rattle.protocol.specs.Records as R
 
 -- how a frame is framed: by a type byte and a length, by a length and a code, or as one byte alone
@@ -139,17 +140,18 @@ errorField = record { atoms = unsigned 1 ∷ text ∷ []; element = λ s. E.Erro
 abbrev pub pair : Item
 pair = record { atoms = text ∷ text ∷ []; element = λ s. E.Pair (s .0) (s .1 .0) }
 
-abbrev pub oids : Field
-oids = counted signedCount oid
+-- lists with a count before them, which a row says how to read
+abbrev pub oids : Count → Field
+oids k = counted k oid
 
-abbrev pub formats : Field
-formats = counted signedCount format
+abbrev pub formats : Count → Field
+formats k = counted k format
 
-abbrev pub values : Field
-values = counted signedCount nullable
+abbrev pub values : Count → Field
+values k = counted k nullable
 
-abbrev pub rowFields : Field
-rowFields = counted signedCount rowField
+abbrev pub rowFields : Count → Field
+rowFields k = counted k rowField
 
 abbrev pub errorFields : Field
 errorFields = ended errorField
@@ -160,10 +162,10 @@ pairs = ended pair
 -- ---- frontend, mode 0
 
 unfoldable pub parse : Kind
-parse = kind "Parse" "P" 8 large 1 (string ∷ string ∷ oids ∷ []) R.parse
+parse = kind "Parse" "P" 8 large 1 (string ∷ string ∷ oids unsignedCount ∷ []) R.parse
 
 unfoldable pub bind : Kind
-bind = kind "Bind" "B" 12 large 2 (string ∷ string ∷ formats ∷ values ∷ formats ∷ []) R.bind
+bind = kind "Bind" "B" 12 large 2 (string ∷ string ∷ formats unsignedCount ∷ values unsignedCount ∷ formats unsignedCount ∷ []) R.bind
 
 unfoldable pub close : Kind
 close = kind "Close" "C" 6 small 3 (target ∷ string ∷ []) R.close
@@ -216,13 +218,13 @@ unfoldable pub emptyQueryResponse : Kind
 emptyQueryResponse = kind "EmptyQueryResponse" "I" 4 small 16 [] R.emptyQueryResponse
 
 unfoldable pub rowDescription : Kind
-rowDescription = kind "RowDescription" "T" 6 large 17 (rowFields ∷ []) R.rowDescription
+rowDescription = kind "RowDescription" "T" 6 large 17 (rowFields signedCount ∷ []) R.rowDescription
 
 unfoldable pub parameterDescription : Kind
-parameterDescription = kind "ParameterDescription" "t" 6 large 18 (oids ∷ []) R.parameterDescription
+parameterDescription = kind "ParameterDescription" "t" 6 large 18 (oids unsignedCount ∷ []) R.parameterDescription
 
 unfoldable pub dataRow : Kind
-dataRow = kind "DataRow" "D" 6 large 19 (values ∷ []) R.dataRow
+dataRow = kind "DataRow" "D" 6 large 19 (values signedCount ∷ []) R.dataRow
 
 unfoldable pub commandComplete : Kind
 commandComplete = kind "CommandComplete" "C" 5 small 20 (string ∷ []) R.commandComplete
@@ -237,13 +239,13 @@ unfoldable pub noticeResponse : Kind
 noticeResponse = kind "NoticeResponse" "N" 5 large 23 (errorFields ∷ []) R.noticeResponse
 
 unfoldable pub copyInResponse : Kind
-copyInResponse = kind "CopyInResponse" "G" 7 small 24 (i8 ∷ formats ∷ []) R.copyInResponse
+copyInResponse = kind "CopyInResponse" "G" 7 small 24 (i8 ∷ formats signedCount ∷ []) R.copyInResponse
 
 unfoldable pub copyOutResponse : Kind
-copyOutResponse = kind "CopyOutResponse" "H" 7 small 25 (i8 ∷ formats ∷ []) R.copyOutResponse
+copyOutResponse = kind "CopyOutResponse" "H" 7 small 25 (i8 ∷ formats signedCount ∷ []) R.copyOutResponse
 
 unfoldable pub copyBothResponse : Kind
-copyBothResponse = kind "CopyBothResponse" "W" 7 small 26 (i8 ∷ formats ∷ []) R.copyBothResponse
+copyBothResponse = kind "CopyBothResponse" "W" 7 small 26 (i8 ∷ formats signedCount ∷ []) R.copyBothResponse
 
 unfoldable pub notificationResponse : Kind
 notificationResponse = kind "NotificationResponse" "A" 10 large 27 (i32 ∷ string ∷ string ∷ []) R.notificationResponse

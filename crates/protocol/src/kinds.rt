@@ -145,8 +145,10 @@ pub const FIRST_PACKET: [Line; 4] = [STARTUP, SSL_REQUEST, GSS_ENC_REQUEST, CANC
 
 // ---- other numbers of the format
 
-// The most elements of a list: the largest count of two bytes that is not negative.
+// The most elements of a list: the largest number of two bytes that is not negative, or that has no sign. A list's row says which.
 pub const MOST_SIGNED: usize = 32767;
+
+pub const MOST_UNSIGNED: usize = 65535;
 
 // The largest length that a signed word can tell: above it, the word is negative.
 pub const LONGEST: u32 = 2147483647;

@@ -1,5 +1,6 @@
 // The types of every answer, by value, and the constants, in modules named as the Rust's files.
 ghost use mathlib.Core.Path.{_≡_};
+ghost use Rattle.protocol.specs.Fields.{most};
 ghost use Rattle.protocol.specs.Rules.{rulesOf};
 
 pub mod cancel;
@@ -29,6 +30,8 @@ use extendedquery::Close;
 use extendedquery::Describe;
 use extendedquery::Execute;
 use extendedquery::Parse;
+use kinds::MOST_SIGNED;
+use kinds::MOST_UNSIGNED;
 use response::CommandComplete;
 use response::ErrorResponse;
 use response::GssEncResponse;
@@ -53,6 +56,22 @@ pub struct Span {
 pub struct List {
     pub start: usize,
     pub count: usize,
+}
+
+// How the two bytes of a list's count are read. A list names its own.
+pub enum Count {
+    Signed,
+    Unsigned,
+}
+
+// The most elements that a count can tell.
+pub fn most_of(count: Count) -> usize
+    ensures { λ r. ⌜ r ≡ most count ⌝ }
+{
+    match count {
+        Count::Signed => MOST_SIGNED,
+        Count::Unsigned => MOST_UNSIGNED,
+    }
 }
 
 // What a frame is read by: the mode. A version or a check of texts is a further field here.

@@ -10,11 +10,12 @@ use lib.ListN.{length, getD, drop, length-append}
 use lib.Signed.{mag}
 use mir.Syntax.{w16}
 use mir.Val.{hbits, toZ, ofZ}
+use Rattle.protocol.specs.declared.Count.{Count}
 use Rattle.protocol.specs.declared.Rules.{Rules}
 use Rattle.protocol.specs.Bytes.{noZero, isOneOf, be, bitsOf}
 use Rattle.protocol.specs.Each.{bytesOfEach, ableEach}
 use Rattle.protocol.specs.Encode.{items}
-use Rattle.protocol.specs.Fields.{signedCount, most, signed, oneOf, rest, one, able, bytes, atomBytes, atomAble, itemBytes, itemAble, itemsBytes, itemsAble}
+use Rattle.protocol.specs.Fields.{most, signed, oneOf, rest, one, able, bytes, atomBytes, atomAble, itemBytes, itemAble, itemsBytes, itemsAble}
 use Rattle.protocol.specs.Kinds.{string, oid, format, oids, formats}
 use Rattle.protocol.proofs.Basics.{length-be, back}
 use Rattle.writers.proofs.Laws.{drop-more}
@@ -93,18 +94,18 @@ pub length-rest : (s : List ℕ) → length (bytes (one rest) s) ≡ length s
 unfolding bytes atomBytes
 length-rest s = refl
 
-pub able-oids : (rules : Rules) (xs : List ℕ) → able rules oids (items xs) ≡ leb (length xs) (most signedCount)
+pub able-oids : (rules : Rules) (k : Count) (xs : List ℕ) → able rules (oids k) (items xs) ≡ leb (length xs) (most k)
 unfolding able
-able-oids rules xs = rw (length-items xs, able-words rules xs) (and-true (leb (length xs) (most signedCount)))
+able-oids rules k xs = rw (length-items xs, able-words rules xs) (and-true (leb (length xs) (most k)))
 
-pub length-oids : (xs : List ℕ) → length (bytes oids (items xs)) ≡ 2 + 4 * length xs
+pub length-oids : (k : Count) (xs : List ℕ) → length (bytes (oids k) (items xs)) ≡ 2 + 4 * length xs
 unfolding bytes be
-length-oids xs = omega (arith, length-words xs)
+length-oids k xs = omega (arith, length-words xs)
 
-pub able-formats : (rules : Rules) (zs : List ℤ) → able rules formats (items zs) ≡ leb (length zs) (most signedCount)
+pub able-formats : (rules : Rules) (k : Count) (zs : List ℤ) → able rules (formats k) (items zs) ≡ leb (length zs) (most k)
 unfolding able
-able-formats rules zs = rw (length-items zs, able-halves rules zs) (and-true (leb (length zs) (most signedCount)))
+able-formats rules k zs = rw (length-items zs, able-halves rules zs) (and-true (leb (length zs) (most k)))
 
-pub length-formats : (zs : List ℤ) → length (bytes formats (items zs)) ≡ 2 + 2 * length zs
+pub length-formats : (k : Count) (zs : List ℤ) → length (bytes (formats k) (items zs)) ≡ 2 + 2 * length zs
 unfolding bytes be
-length-formats zs = omega (arith, length-halves zs)
+length-formats k zs = omega (arith, length-halves zs)

@@ -14,11 +14,12 @@ use lib.Signed.{ltZ, mag}
 use mir.Syntax.{w32}
 use mir.Val.{SFits, hbits, toZ, ofZ}
 use mir.ValLaws.{toZ-ofZ}
+use Rattle.protocol.specs.declared.Count.{Count}
 use Rattle.protocol.specs.declared.Rules.{Rules}
 use Rattle.protocol.specs.Bytes.{be, bitsOf}
 use Rattle.protocol.specs.Each.{ableEach, bytesOfEach}
 use Rattle.protocol.specs.Encode.{valuesGiven}
-use Rattle.protocol.specs.Fields.{ItemContent, signedCount, most, able, bytes, atomAble, atomBytes, valueBytes, itemAble, itemBytes, itemsAble, itemsBytes}
+use Rattle.protocol.specs.Fields.{ItemContent, most, able, bytes, atomAble, atomBytes, valueBytes, itemAble, itemBytes, itemsAble, itemsBytes}
 use Rattle.protocol.specs.Kinds.{nullable, values}
 use Rattle.protocol.proofs.Basics.{none-some, and-left, and-right, length-be, back}
 use Rattle.writers.specs.Given.{isSome, sizeOf}
@@ -145,12 +146,12 @@ unfolding itemsAble itemAble ableEach atomAble
 able-nullables rules [] = refl
 able-nullables rules (v ∷ vs) = able-nullables rules vs
 
-pub able-values : (rules : Rules) (zs : List ℤ) (bs : List ℕ) (vs : List (ItemContent nullable)) → valuesGiven zs bs ≡ some vs
-    → able rules values vs ≡ leb (length zs) (most signedCount)
+pub able-values : (rules : Rules) (k : Count) (zs : List ℤ) (bs : List ℕ) (vs : List (ItemContent nullable)) → valuesGiven zs bs ≡ some vs
+    → able rules (values k) vs ≡ leb (length zs) (most k)
 unfolding able
-able-values rules zs bs vs e = rw (values-are zs bs vs e .many, able-nullables rules vs) (and-true (leb (length zs) (most signedCount)))
+able-values rules k zs bs vs e = rw (values-are zs bs vs e .many, able-nullables rules vs) (and-true (leb (length zs) (most k)))
 
-pub length-values : (zs : List ℤ) (bs : List ℕ) (vs : List (ItemContent nullable)) → valuesGiven zs bs ≡ some vs
-    → length (bytes values vs) ≡ 2 + (4 * length zs + length bs)
+pub length-values : (k : Count) (zs : List ℤ) (bs : List ℕ) (vs : List (ItemContent nullable)) → valuesGiven zs bs ≡ some vs
+    → length (bytes (values k) vs) ≡ 2 + (4 * length zs + length bs)
 unfolding bytes be
-length-values zs bs vs e = let v = values-are zs bs vs e in rw (v .written) (omega (arith, v .size))
+length-values k zs bs vs e = let v = values-are zs bs vs e in rw (v .written) (omega (arith, v .size))

@@ -13,13 +13,13 @@ ghost use lib.Dec.{leb};
 ghost use lib.ListN.{drop, length, take};
 ghost use Rattle.protocol.specs.Bytes.{be, bitsOf, noZero};
 ghost use Rattle.protocol.specs.Encode.{items};
-ghost use Rattle.protocol.specs.Fields.{bytes, itemsBytes, most, signedCount};
+ghost use Rattle.protocol.specs.Fields.{bytes, itemsBytes, most, unsignedCount};
 ghost use Rattle.protocol.specs.Kinds.{format, formats, largeFrame, oid, oids, typed};
 ghost use Rattle.protocol.specs.WellFormed.{header};
 ghost use Rattle.writers.specs.Writing.{Put, Wrote, largest, verdictOf};
 use protocol::Encoded;
 use protocol::kinds::LARGE_FRAME;
-use protocol::kinds::MOST_SIGNED;
+use protocol::kinds::MOST_UNSIGNED;
 use protocol::refusal::LENGTH_ABOVE_LIMIT;
 use protocol::refusal::NOT_REPRESENTABLE;
 use protocol::refusal::OUTPUT_TOO_SHORT;
@@ -252,16 +252,16 @@ fn store_halves(out: &mut [u8], at: usize, xs: &[i16]) -> usize
 
 // Oids and formats, with their count before them.
 fn store_oids(out: &mut [u8], at: usize, xs: &[u32]) -> usize
-    requires { ⌜ (at + 4 * length (now xs) + 2 ≤ length (now out)) × (length (now xs) ≤ most signedCount) ⌝ }
-    ensures { λ r. ⌜ Wrote (now (out .entry)) at (bytes oids (items (now (xs .entry)))) (2 + 4 * length (now (xs .entry))) (now (out .exit)) r ⌝ }
+    requires { ⌜ (at + 4 * length (now xs) + 2 ≤ length (now out)) × (length (now xs) ≤ most unsignedCount) ⌝ }
+    ensures { λ r. ⌜ Wrote (now (out .entry)) at (bytes (oids unsignedCount) (items (now (xs .entry)))) (2 + 4 * length (now (xs .entry))) (now (out .exit)) r ⌝ }
 {
     let first = store_half(out, at, xs.len() as u16);
     store_words(out, first, xs)
 }
 
 fn store_formats(out: &mut [u8], at: usize, xs: &[i16]) -> usize
-    requires { ⌜ (at + 2 * length (now xs) + 2 ≤ length (now out)) × (length (now xs) ≤ most signedCount) ⌝ }
-    ensures { λ r. ⌜ Wrote (now (out .entry)) at (bytes formats (items (now (xs .entry)))) (2 + 2 * length (now (xs .entry))) (now (out .exit)) r ⌝ }
+    requires { ⌜ (at + 2 * length (now xs) + 2 ≤ length (now out)) × (length (now xs) ≤ most unsignedCount) ⌝ }
+    ensures { λ r. ⌜ Wrote (now (out .entry)) at (bytes (formats unsignedCount) (items (now (xs .entry)))) (2 + 2 * length (now (xs .entry))) (now (out .exit)) r ⌝ }
 {
     let at = store_half(out, at, xs.len() as u16);
     store_halves(out, at, xs)
@@ -399,20 +399,20 @@ pub fn put_pairs(out: &mut [u8], at: usize, a: u32, b: u16, c: u32, d: u16, e: u
     at
 }
 
-// A list of more than MOST_SIGNED has no count: nothing is written.
+// A list of more than MOST_UNSIGNED has no count of two bytes: nothing is written.
 pub fn put_oids(out: &mut [u8], at: usize, xs: &[u32]) -> usize
-    ensures { λ r. ⌜ Put (leb (length (now (xs .entry))) (most signedCount)) (now (out .entry)) at (bytes oids (items (now (xs .entry)))) (2 + 4 * length (now (xs .entry))) (now (out .exit)) r ⌝ }
+    ensures { λ r. ⌜ Put (leb (length (now (xs .entry))) (most unsignedCount)) (now (out .entry)) at (bytes (oids unsignedCount) (items (now (xs .entry)))) (2 + 4 * length (now (xs .entry))) (now (out .exit)) r ⌝ }
 {
-    if room(xs.len() <= MOST_SIGNED, out.len(), at, 2 + 4 * xs.len()) {
+    if room(xs.len() <= MOST_UNSIGNED, out.len(), at, 2 + 4 * xs.len()) {
         return store_oids(out, at, xs);
     }
     at
 }
 
 pub fn put_formats(out: &mut [u8], at: usize, xs: &[i16]) -> usize
-    ensures { λ r. ⌜ Put (leb (length (now (xs .entry))) (most signedCount)) (now (out .entry)) at (bytes formats (items (now (xs .entry)))) (2 + 2 * length (now (xs .entry))) (now (out .exit)) r ⌝ }
+    ensures { λ r. ⌜ Put (leb (length (now (xs .entry))) (most unsignedCount)) (now (out .entry)) at (bytes (formats unsignedCount) (items (now (xs .entry)))) (2 + 2 * length (now (xs .entry))) (now (out .exit)) r ⌝ }
 {
-    if room(xs.len() <= MOST_SIGNED, out.len(), at, 2 + 2 * xs.len()) {
+    if room(xs.len() <= MOST_UNSIGNED, out.len(), at, 2 + 2 * xs.len()) {
         return store_formats(out, at, xs);
     }
     at

@@ -9,7 +9,7 @@ use lib.IntN.{ℤ}
 use lib.ListN.{length, drop, length-take, length-drop}
 use Rattle.protocol.specs.Bytes.{be}
 use Rattle.protocol.specs.Encode.{valuesGiven}
-use Rattle.protocol.specs.Fields.{bytes}
+use Rattle.protocol.specs.Fields.{unsignedCount, bytes}
 use Rattle.protocol.specs.Kinds.{values}
 use Rattle.writers.specs.Given.{isSome}
 use Rattle.writers.specs.Writing.{write, Wrote}
@@ -23,7 +23,7 @@ use Rattle.encode.proofs.put_values.Tie as tie
 -- the count, and then the values
 values-field : {d mid out : List ℕ} {p at next : ℕ} (zs : List ℤ) (bs : List ℕ)
     → Wrote d p (be 2 (length zs)) 2 mid at → out ≡ write mid at (valuesBytes zs bs) → next ≡ at + (4 * length zs + length bs)
-    → WroteGiven values (valuesGiven zs bs) d p (2 + (4 * length zs + length bs)) out next
+    → WroteGiven (values unsignedCount) (valuesGiven zs bs) d p (2 + (4 * length zs + length bs)) out next
 unfolding bytes
 values-field zs bs w e at = record {
   field = λ vs is.

@@ -5,7 +5,7 @@ use borrow.Author.Needs.{needs}
 use borrow.Author.Tests.{leb-true}
 use lib.Dec.{leb}
 use lib.ListN.{length}
-use Rattle.protocol.specs.Fields.{most, signedCount}
+use Rattle.protocol.specs.Fields.{most, unsignedCount}
 use Rattle.writers.proofs.Puts.{has-room, put, kept}
 use Rattle.writers.proofs.put_oids.Statement.{statement}
 use Rattle.writers.proofs.put_oids.Tie as tie
@@ -13,7 +13,7 @@ use Rattle.writers.proofs.put_oids.Tie as tie
 requires : tie.Need-store-oids-requires
 requires c κs =
     let a = c .before .before .before .before .before .args in
-    let h = has-room (leb (length (a .xs .now)) (most signedCount)) (a .at) (2 + 4 * length (a .xs .now)) (c .before .before .room .ensures) (c .before .if1 .taken) in
+    let h = has-room (leb (length (a .xs .now)) (most unsignedCount)) (a .at) (2 + 4 * length (a .xs .now)) (c .before .before .room .ensures) (c .before .if1 .taken) in
     (omega (arith, h .1), leb-true _ _ (h .0))
 
 returns : tie.Need-returns

@@ -27,7 +27,7 @@ returns : tie.Need-returns
 returns c =
     let w = c .before .before in
     let a = w .before .before .args in
-    count-short (a .least) (a .frame .now) (a .self .at) (ap (halfRead (a .self .at)) (sym (c .enum-told .given .1)) ∙ w .half .ensures)
+    count-short (a .reading) (a .least) (a .frame .now) (a .self .at) (ap (halfRead (a .self .at)) (sym (c .enum-told .given .1)) ∙ w .half .ensures)
 
 returns-2 : tie.Need-returns-2
 unfolding start

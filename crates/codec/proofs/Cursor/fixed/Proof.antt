@@ -4,7 +4,6 @@ use mathlib.Core.Path.{_≡_, refl, ap, sym, _∙_}
 use native.Mathlib.Omega.{arith}
 use borrow.Author.Needs.{needs}
 use lib.ListN.{length}
-use Rattle.protocol.specs.Fields.{signedCount}
 use Rattle.protocol.specs.Reading.{got, readCount}
 use Rattle.protocol.proofs.Counts.{Counted, counted-is}
 use Rattle.codec.specs.CursorRead.{listedRead}
@@ -16,7 +15,7 @@ start : tie.After-known-told → tie.Start
 start c = c .before .before .before .before .before
 
 -- the count was read
-opened : (c : tie.After-known-told) → readCount signedCount (start c .args .size) (start c .args .frame .now) (start c .args .self .at) ≡ got (c .before .counted .given .0 .0) (c .before .counted .given .0 .1 .0 .at)
+opened : (c : tie.After-known-told) → readCount (start c .args .reading) (start c .args .size) (start c .args .frame .now) (start c .args .self .at) ≡ got (c .before .counted .given .0 .0) (c .before .counted .given .0 .1 .0 .at)
 unfolding start
 opened c = sym (c .before .before .before .count .ensures) ∙ ap listedRead (c .before .counted .given .1)
 

@@ -8,7 +8,7 @@ use Rattle.codec.proofs.Cursor.formats.Tie as tie
 returns : tie.Need-returns
 returns c =
     let a = c .before .before .args in
-    c .fixed .ensures ∙ format-list (a .rules) (a .frame .now) (a .self .at)
+    c .fixed .ensures ∙ format-list (a .rules) (a .reading) (a .frame .now) (a .self .at)
 
 pub formats-spec : {M : Type 1} → statement M
 formats-spec = tie.close (tie.spec (λ c κs. search needs) returns)

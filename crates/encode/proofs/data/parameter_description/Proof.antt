@@ -5,7 +5,7 @@ use borrow.Author.Needs.{needs}
 use borrow.Author.Tests.{leb-true}
 use denote.Ref.{now}
 use lib.ListN.{length}
-use Rattle.protocol.specs.Fields.{most, signedCount}
+use Rattle.protocol.specs.Fields.{most, unsignedCount}
 use Rattle.protocol.specs.Kinds as K
 use Rattle.writers.proofs.Encoding.{Judged, judged, roomOf, refused, finished}
 use Rattle.encode.specs.Given as G
@@ -28,7 +28,7 @@ write-parameter-description-requires c κs =
     let v = c .before .before .before .before in
     let a = start v .args in
     let h = roomOf (M.parameterDescription (now (a .types))) (says v) (c .before .before .r .given .1) in
-    let few : length (now (a .types)) ≤ most signedCount = leb-true _ _ (h .able) in
+    let few : length (now (a .types)) ≤ most unsignedCount = leb-true _ _ (h .able) in
     (omega (arith, h .whole), h .fits, h .small, few)
 
 returns-2 : tie.Need-returns-2

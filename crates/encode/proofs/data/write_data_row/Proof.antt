@@ -4,6 +4,7 @@ use borrow.Author.Needs.{needs}
 use denote.Ref.{now}
 use Rattle.protocol.specs.Each.{bytesOfEach}
 use Rattle.protocol.specs.Encode.{valuesGiven}
+use Rattle.protocol.specs.Fields.{bytes}
 use Rattle.protocol.specs.Kinds as K
 use Rattle.protocol.specs.WellFormed.{bodyBytes}
 use Rattle.writers.proofs.Encoding.{framed-put}
@@ -14,7 +15,7 @@ use Rattle.encode.proofs.data.write_data_row.Statement.{statement}
 use Rattle.encode.proofs.data.write_data_row.Tie as tie
 
 returns : tie.Need-returns
-unfolding K.dataRow G.dataRow bodyBytes bytesOfEach
+unfolding K.dataRow G.dataRow bodyBytes bytesOfEach bytes
 returns c =
     let c2 = c .before .before in
     let c1 = c2 .before .before .before .before in

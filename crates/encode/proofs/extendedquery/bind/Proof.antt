@@ -7,7 +7,7 @@ use lib.Dec.{leb}
 use lib.ListN.{length}
 use Rattle.protocol.specs.Bytes.{noZero}
 use Rattle.protocol.specs.Encode.{valuesGiven}
-use Rattle.protocol.specs.Fields.{most, signedCount}
+use Rattle.protocol.specs.Fields.{most, unsignedCount}
 use Rattle.protocol.specs.Kinds as K
 use Rattle.writers.specs.Given.{isSome}
 use Rattle.writers.proofs.Encoding.{Judged, judged, roomOf, refused, finished}
@@ -34,13 +34,13 @@ write-bind-requires c κs =
     let some = isSome (valuesGiven (now (a .lengths)) (now (a .joined))) in
     let h = roomOf (M.bind (now (a .portal-name)) (now (a .statement-name)) (now (a .parameter-format-codes)) (now (a .lengths)) (now (a .joined)) (now (a .result-column-format-codes))) (says v) (c .before .before .r .given .1) in
     let counts = and-right (noZero (now (a .statement-name))) (and-right (noZero (now (a .portal-name))) (and-right some (h .able))) in
-    let more = and-right (leb (length (now (a .parameter-format-codes))) (most signedCount)) counts in (
+    let more = and-right (leb (length (now (a .parameter-format-codes))) (most unsignedCount)) counts in (
       omega (arith, h .whole),
       h .fits,
       h .small,
       leb-true _ _ (and-left _ _ counts),
       leb-true _ _ (and-left _ _ more),
-      leb-true _ _ (and-right (leb (length (now (a .lengths))) (most signedCount)) more),
+      leb-true _ _ (and-right (leb (length (now (a .lengths))) (most unsignedCount)) more),
       and-left some _ (h .able),
     )
 

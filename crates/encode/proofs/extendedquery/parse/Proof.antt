@@ -6,7 +6,7 @@ use borrow.Author.Tests.{leb-true}
 use denote.Ref.{now}
 use lib.ListN.{length}
 use Rattle.protocol.specs.Bytes.{noZero}
-use Rattle.protocol.specs.Fields.{most, signedCount}
+use Rattle.protocol.specs.Fields.{most, unsignedCount}
 use Rattle.protocol.specs.Kinds as K
 use Rattle.writers.proofs.Encoding.{Judged, judged, roomOf, refused, finished}
 use Rattle.protocol.proofs.Basics.{and-right}
@@ -31,7 +31,7 @@ write-parse-requires c κs =
     let v = c .before .before .before .before in
     let a = start v .args in
     let h = roomOf (M.parse (now (a .name)) (now (a .query)) (now (a .type-oids))) (says v) (c .before .before .r .given .1) in
-    let few : length (now (a .type-oids)) ≤ most signedCount = leb-true _ _ (and-right (noZero (now (a .query))) (and-right (noZero (now (a .name))) (h .able))) in
+    let few : length (now (a .type-oids)) ≤ most unsignedCount = leb-true _ _ (and-right (noZero (now (a .query))) (and-right (noZero (now (a .name))) (h .able))) in
     (omega (arith, h .whole), h .fits, h .small, few)
 
 returns-2 : tie.Need-returns-2

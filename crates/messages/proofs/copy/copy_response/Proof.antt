@@ -9,6 +9,7 @@ use Rattle.protocol.specs.declared.Message.{Message}
 use Rattle.protocol.specs.Bytes.{signedOf}
 use Rattle.protocol.specs.Each.{Each}
 use Rattle.protocol.specs.Fields.{Field, Slot}
+use Rattle.protocol.specs.Fields.{signedCount}
 use Rattle.protocol.specs.Kinds.{typed, formats}
 use Rattle.protocol.proofs.OneByOne.{signed-got, signed-bad}
 use Rattle.codec.specs.CursorRead.{byteRead, listedRead}
@@ -47,7 +48,7 @@ returns-2 c = off (left (c .before .before .before)) (signed-bad 1 (ap (byteRead
 abbrev frame : tie.After-known-told2 → tie.After-frame
 frame c = c .before .before .before .before
 
-left-2 : (c : tie.After-known-told2) → Left (frame c) (formats ∷ []) (λ ss. copyMessage (start (frame c) .args .direction) (signedOf 1 (c .before .format .given .0 .0), ss)) (c .before .format .given .0 .1 .0 .at)
+left-2 : (c : tie.After-known-told2) → Left (frame c) (formats signedCount ∷ []) (λ ss. copyMessage (start (frame c) .args .direction) (signedOf 1 (c .before .format .given .0 .0), ss)) (c .before .format .given .0 .1 .0 .at)
 left-2 c = on (left (frame c)) (signed-got 1 (ap (byteRead 5) (sym (c .before .format .given .1)) ∙ c .before .before .before .byte .ensures))
 
 returns-3 : tie.Need-returns-3

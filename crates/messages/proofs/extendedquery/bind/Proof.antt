@@ -8,6 +8,7 @@ use Rattle.protocol.specs.declared.Message.{Message}
 use Rattle.protocol.specs.Decode.{decodeAs}
 use Rattle.protocol.specs.Each.{Each}
 use Rattle.protocol.specs.Fields.{Field, Slot}
+use Rattle.protocol.specs.Fields.{unsignedCount}
 use Rattle.protocol.specs.Kinds.{typed, formats, string, values, bind}
 use Rattle.protocol.specs.Records as R
 use Rattle.codec.specs.CursorRead.{listedRead, textRead}
@@ -39,26 +40,26 @@ returns-2 : tie.Need-returns-2
 unfolding bind
 returns-2 c = off (left (c .before .before .before)) (ap (textRead 5) (sym (c .enum-told .given .1)) ∙ c .before .before .text .ensures)
 
-left-2 : (c : tie.After-known-told2) → Left (c .before .before .before .before) (string ∷ formats ∷ values ∷ formats ∷ []) (λ ss. R.bind (c .before .portal-name .given .0 .0) (ss .0) (ss .1 .0) (ss .1 .1 .0) (ss .1 .1 .1 .0)) (c .before .portal-name .given .0 .1 .0 .at)
+left-2 : (c : tie.After-known-told2) → Left (c .before .before .before .before) (string ∷ formats unsignedCount ∷ values unsignedCount ∷ formats unsignedCount ∷ []) (λ ss. R.bind (c .before .portal-name .given .0 .0) (ss .0) (ss .1 .0) (ss .1 .1 .0) (ss .1 .1 .1 .0)) (c .before .portal-name .given .0 .1 .0 .at)
 unfolding bind
 left-2 c = on (left (c .before .before .before .before)) (ap (textRead 5) (sym (c .before .portal-name .given .1)) ∙ c .before .before .before .text .ensures)
 
 returns-3 : tie.Need-returns-3
 returns-3 c = off (left-2 (c .before .before .before)) (ap (textRead (c .before .before .before .before .portal-name .given .0 .1 .0 .at)) (sym (c .enum-told2 .given .1)) ∙ c .before .before .text2 .ensures)
 
-left-3 : (c : tie.After-known-told3) → Left (c .before .before .before .before .before .before .before .before) (formats ∷ values ∷ formats ∷ []) (λ ss. R.bind (c .before .before .before .before .before .portal-name .given .0 .0) (c .before .statement-name .given .0 .0) (ss .0) (ss .1 .0) (ss .1 .1 .0)) (c .before .statement-name .given .0 .1 .0 .at)
+left-3 : (c : tie.After-known-told3) → Left (c .before .before .before .before .before .before .before .before) (formats unsignedCount ∷ values unsignedCount ∷ formats unsignedCount ∷ []) (λ ss. R.bind (c .before .before .before .before .before .portal-name .given .0 .0) (c .before .statement-name .given .0 .0) (ss .0) (ss .1 .0) (ss .1 .1 .0)) (c .before .statement-name .given .0 .1 .0 .at)
 left-3 c = on (left-2 (c .before .before .before .before)) (ap (textRead (c .before .before .before .before .before .portal-name .given .0 .1 .0 .at)) (sym (c .before .statement-name .given .1)) ∙ c .before .before .before .text2 .ensures)
 
 returns-4 : tie.Need-returns-4
 returns-4 c = c .refused .ensures ∙ ap refusalOf (c .before .enum-told3 .given .1) ∙ off (left-3 (c .before .before .before .before)) (ap listedRead (sym (c .before .enum-told3 .given .1)) ∙ c .before .before .before .formats .ensures)
 
-left-4 : (c : tie.After-known-told4) → Left (c .before .before .before .before .before .before .before .before .before .before .before .before) (values ∷ formats ∷ []) (λ ss. R.bind (c .before .before .before .before .before .before .before .before .before .portal-name .given .0 .0) (c .before .before .before .before .before .statement-name .given .0 .0) (c .before .listed .given .0 .0) (ss .0) (ss .1 .0)) (c .before .listed .given .0 .1 .0 .at)
+left-4 : (c : tie.After-known-told4) → Left (c .before .before .before .before .before .before .before .before .before .before .before .before) (values unsignedCount ∷ formats unsignedCount ∷ []) (λ ss. R.bind (c .before .before .before .before .before .before .before .before .before .portal-name .given .0 .0) (c .before .before .before .before .before .statement-name .given .0 .0) (c .before .listed .given .0 .0) (ss .0) (ss .1 .0)) (c .before .listed .given .0 .1 .0 .at)
 left-4 c = on (left-3 (c .before .before .before .before)) (ap listedRead (sym (c .before .listed .given .1)) ∙ c .before .before .before .formats .ensures)
 
 returns-5 : tie.Need-returns-5
 returns-5 c = c .refused2 .ensures ∙ ap refusalOf (c .before .enum-told4 .given .1) ∙ off (left-4 (c .before .before .before .before)) (ap listedRead (sym (c .before .enum-told4 .given .1)) ∙ c .before .before .before .values .ensures)
 
-left-5 : (c : tie.After-known-told5) → Left (c .before .before .before .before .before .before .before .before .before .before .before .before .before .before .before .before) (formats ∷ []) (λ ss. R.bind (c .before .before .before .before .before .before .before .before .before .before .before .before .before .portal-name .given .0 .0) (c .before .before .before .before .before .before .before .before .before .statement-name .given .0 .0) (c .before .before .before .before .before .listed .given .0 .0) (c .before .listed2 .given .0 .0) (ss .0)) (c .before .listed2 .given .0 .1 .0 .at)
+left-5 : (c : tie.After-known-told5) → Left (c .before .before .before .before .before .before .before .before .before .before .before .before .before .before .before .before) (formats unsignedCount ∷ []) (λ ss. R.bind (c .before .before .before .before .before .before .before .before .before .before .before .before .before .portal-name .given .0 .0) (c .before .before .before .before .before .before .before .before .before .statement-name .given .0 .0) (c .before .before .before .before .before .listed .given .0 .0) (c .before .listed2 .given .0 .0) (ss .0)) (c .before .listed2 .given .0 .1 .0 .at)
 left-5 c = on (left-4 (c .before .before .before .before)) (ap listedRead (sym (c .before .listed2 .given .1)) ∙ c .before .before .before .values .ensures)
 
 returns-6 : tie.Need-returns-6

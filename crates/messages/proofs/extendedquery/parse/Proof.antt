@@ -8,6 +8,7 @@ use Rattle.protocol.specs.declared.Message.{Message}
 use Rattle.protocol.specs.Decode.{decodeAs}
 use Rattle.protocol.specs.Each.{Each}
 use Rattle.protocol.specs.Fields.{Field, Slot}
+use Rattle.protocol.specs.Fields.{unsignedCount}
 use Rattle.protocol.specs.Kinds.{typed, oids, string, parse}
 use Rattle.protocol.specs.Records as R
 use Rattle.codec.specs.CursorRead.{listedRead, textRead}
@@ -39,14 +40,14 @@ returns-2 : tie.Need-returns-2
 unfolding parse
 returns-2 c = off (left (c .before .before .before)) (ap (textRead 5) (sym (c .enum-told .given .1)) ∙ c .before .before .text .ensures)
 
-left-2 : (c : tie.After-known-told2) → Left (c .before .before .before .before) (string ∷ oids ∷ []) (λ ss. R.parse (c .before .name .given .0 .0) (ss .0) (ss .1 .0)) (c .before .name .given .0 .1 .0 .at)
+left-2 : (c : tie.After-known-told2) → Left (c .before .before .before .before) (string ∷ oids unsignedCount ∷ []) (λ ss. R.parse (c .before .name .given .0 .0) (ss .0) (ss .1 .0)) (c .before .name .given .0 .1 .0 .at)
 unfolding parse
 left-2 c = on (left (c .before .before .before .before)) (ap (textRead 5) (sym (c .before .name .given .1)) ∙ c .before .before .before .text .ensures)
 
 returns-3 : tie.Need-returns-3
 returns-3 c = off (left-2 (c .before .before .before)) (ap (textRead (c .before .before .before .before .name .given .0 .1 .0 .at)) (sym (c .enum-told2 .given .1)) ∙ c .before .before .text2 .ensures)
 
-left-3 : (c : tie.After-known-told3) → Left (c .before .before .before .before .before .before .before .before) (oids ∷ []) (λ ss. R.parse (c .before .before .before .before .before .name .given .0 .0) (c .before .query .given .0 .0) (ss .0)) (c .before .query .given .0 .1 .0 .at)
+left-3 : (c : tie.After-known-told3) → Left (c .before .before .before .before .before .before .before .before) (oids unsignedCount ∷ []) (λ ss. R.parse (c .before .before .before .before .before .name .given .0 .0) (c .before .query .given .0 .0) (ss .0)) (c .before .query .given .0 .1 .0 .at)
 left-3 c = on (left-2 (c .before .before .before .before)) (ap (textRead (c .before .before .before .before .before .name .given .0 .1 .0 .at)) (sym (c .before .query .given .1)) ∙ c .before .before .before .text2 .ensures)
 
 returns-4 : tie.Need-returns-4
