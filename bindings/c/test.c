@@ -1,5 +1,5 @@
 /* Each function of tusweram.h with known answers, worked out from docs/FORMAT.md; NULL with length 0; numbers, places and lengths that reach past
- * what is lent. Every buffer ends at the end of a page with nothing behind it, so a read or write past it stops the program. */
+ * what is lent; the longest lists. Every buffer ends at the end of a page with nothing behind it, so a read or write past it stops the program. */
 #define _DEFAULT_SOURCE
 #include <stdarg.h>
 #include <stdio.h>
@@ -34,7 +34,8 @@ static int checks, wrong;
 
 /* ---- buffers that end where the memory ends */
 
-enum { PAGES = 4 };
+/* The longest frame here, a Bind of 40,000 values, has some 80 pages. */
+enum { PAGES = 128 };
 
 /* The end of fresh pages, before one that cannot be touched. */
 static uint8_t *edge(void) {
@@ -615,6 +616,114 @@ static void encoding_row_description(void) {
     }
 }
 
+/* ---- lists as long as their counts can say */
+
+enum { SIGNED_MOST = 32767, UNSIGNED_MOST = 65535, DEVICES = 40000 };
+
+/* Element i is the word 4294967295 - i, the code i - 32768, or an empty value. */
+static uint32_t words[UNSIGNED_MOST + 1];
+static int16_t codes[UNSIGNED_MOST + 1];
+static const int32_t empty_values[UNSIGNED_MOST + 1];
+
+/* A list of a kind that has oids, or a list of a BIND, with so many elements; its other fields are empty. */
+static size_t long_list(size_t kind, size_t list, size_t n, uint8_t *out, size_t out_len) {
+    return lists(kind, 0, NONE, NONE, NONE, out, out_len, words, n, empty_values, list == 1 ? n : 0, codes, list == 0 ? n : 0, codes,
+                 list == 2 ? n : 0);
+}
+
+/* The lists with an unsigned count: 65,535 elements are written and read, and one more is refused. The list stands in row[place] and behind it; the
+ * first and the last element are known by their number, or by where the value starts. */
+static void unsigned_counts(void) {
+    static const struct {
+        uint8_t mode;
+        size_t kind, list, size, place, start, sort, first, last;
+    } known[] = {
+        {0, TUSWERAM_PARSE, 0, 262149, 9, 9, TUSWERAM_OID, 4294967295, 4294901761},
+        {0, TUSWERAM_BIND, 0, 131083, 9, 9, TUSWERAM_FORMAT, 4294934528, 32766},
+        {0, TUSWERAM_BIND, 1, 262153, 11, 11, TUSWERAM_VALUE, 15, 262151},
+        {0, TUSWERAM_BIND, 2, 131083, 13, 13, TUSWERAM_FORMAT, 4294934528, 32766},
+        {1, TUSWERAM_PARAMETER_DESCRIPTION, 0, 262147, 5, 7, TUSWERAM_OID, 4294967295, 4294901761},
+    };
+    for (uint32_t i = 0; i <= UNSIGNED_MOST; i++) {
+        words[i] = UINT32_MAX - i;
+        codes[i] = (int16_t)((int32_t)i - 32768);
+    }
+    for (size_t k = 0; k < sizeof known / sizeof *known; k++) {
+        uint8_t mode = known[k].mode;
+        size_t kind = known[k].kind, list = known[k].list, size = known[k].size, place = known[k].place, sort = known[k].sort;
+        uint8_t *frame = fresh(size);
+        CHECK(long_list(kind, list, UNSIGNED_MOST, frame, size) == size);
+        decode(mode, frame, size);
+        CHECK(row[0] == TUSWERAM_THERE && row[3] == size && row[4] == kind);
+        CHECK(row[place] == known[k].start && row[place + 1] == UNSIGNED_MOST);
+        element(mode, frame, size, list, 0);
+        CHECK(is(6, Z(0), Z(0), Z(0), Z(0), sort, known[k].first));
+        element(mode, frame, size, list, UNSIGNED_MOST - 1);
+        CHECK(is(6, Z(0), Z(0), Z(0), Z(0), sort, known[k].last));
+        element(mode, frame, size, list, UNSIGNED_MOST);
+        CHECK(REFUSED(11, 0));
+        REFUSES(10, long_list(kind, list, UNSIGNED_MOST + 1, out, out_len));
+    }
+}
+
+static void signed_counts(void) {
+    static const struct tusweram_field_description fields[SIGNED_MOST + 1];
+    size_t size = 7 + 4 * SIGNED_MOST;
+    uint8_t *frame = fresh(size);
+    CHECK(lists(19, 0, NONE, NONE, NONE, frame, size, NONE, empty_values, SIGNED_MOST, NONE, NONE) == size);
+    decode(1, frame, size);
+    CHECK(is(7, Z(0), Z(0), Z(0), size, Z(19), Z(7), Z(SIGNED_MOST)));
+    /* a row that could be written but for the short output */
+    REFUSES(9, tusweram_encode_row_description(fields, SIGNED_MOST, NONE, out, out_len));
+    REFUSES(10, lists(19, 0, NONE, NONE, NONE, out, out_len, NONE, empty_values, SIGNED_MOST + 1, NONE, NONE));
+    REFUSES(10, tusweram_encode_row_description(fields, SIGNED_MOST + 1, NONE, out, out_len));
+    /* all bytes of 32,768 empty values */
+    frame = fresh(size + 4);
+    memset(frame, 0, size + 4);
+    memcpy(frame, "D\0\x02\0\x06\x80", 6);
+    decode(1, frame, size + 4);
+    CHECK(REFUSED(5, 5));
+}
+
+/* Reads n values of a frame in one pass. The answer is where the last one ends, or 0 where one is not as it was given. */
+static size_t read_values(const uint8_t *frame, size_t size, size_t at, const int32_t *lengths, size_t n, const uint8_t *joined) {
+    for (size_t i = 0; i < n; i++) {
+        size_t start = at + 4, len = lengths[i] < 0 ? 0 : (size_t)lengths[i];
+        stale();
+        tusweram_value(frame, size, at, row);
+        if (!(lengths[i] < 0 ? is(5, Z(0), Z(0), Z(0), start, Z(3)) : is(7, Z(0), Z(0), Z(0), start + len, Z(4), start, len))) return 0;
+        if (memcmp(frame + start, joined, len) != 0) return 0;
+        joined += len;
+        at = start + len;
+    }
+    return at;
+}
+
+/* A Bind of 40,000 device numbers, of which each seventh is NULL. */
+static void a_long_bind(void) {
+    static int32_t lengths[DEVICES];
+    static uint8_t joined[5 * DEVICES + 1];
+    size_t joined_len = 0;
+    for (int i = 0; i < DEVICES; i++) {
+        lengths[i] = i % 7 == 0 ? -1 : sprintf((char *)joined + joined_len, "%d", i);
+        joined_len += lengths[i] < 0 ? 0 : (size_t)lengths[i];
+    }
+    size_t size = 13 + 4 * DEVICES + joined_len;
+    uint8_t *frame = fresh(size);
+    CHECK(lists(2, 0, NONE, NONE, joined, joined_len, frame, size, NONE, lengths, DEVICES, NONE, NONE) == size);
+    CHECK(memcmp(frame + 9, "\x9c\x40", 2) == 0);
+    decode(0, frame, size);
+    CHECK(is(14, Z(0), Z(0), Z(0), size, Z(2), Z(5), Z(0), Z(6), Z(0), Z(9), Z(0), Z(11), Z(DEVICES), size));
+    CHECK(read_values(lent(frame, size), size, 11, lengths, DEVICES, joined) == size - 2);
+    /* 39,998 is NULL, and the last value ends where the count of result formats stands */
+    element(0, frame, size, 1, 39998);
+    CHECK(is(5, Z(0), Z(0), Z(0), Z(0), Z(3)));
+    element(0, frame, size, 1, 39999);
+    CHECK(is(7, Z(0), Z(0), Z(0), Z(0), Z(4), size - 7, Z(5)));
+    element(0, frame, size, 1, DEVICES);
+    CHECK(REFUSED(11, 0));
+}
+
 int main(void) {
     input_edge = edge();
     output_edge = edge();
@@ -634,6 +743,9 @@ int main(void) {
     encoding_lists();
     encoding_startup();
     encoding_row_description();
+    unsigned_counts();
+    signed_counts();
+    a_long_bind();
     printf("%d checks, %d wrong\n", checks, wrong);
     return wrong != 0;
 }

@@ -108,7 +108,7 @@ enum tusweram_refusal {
     TUSWERAM_TYPE_UNKNOWN = 2,       /* the type byte, answer byte or code is unknown; encoding: no such kind */
     TUSWERAM_LENGTH_TOO_SMALL = 3,   /* the length is too small */
     TUSWERAM_LENGTH_ABOVE_LIMIT = 4, /* the length is above the kind's limit */
-    TUSWERAM_BAD_COUNT = 5,          /* a count is negative, or too large for the frame */
+    TUSWERAM_BAD_COUNT = 5,          /* a signed count is negative, or a count is too large for the frame */
     TUSWERAM_CUT = 6,                /* a number, code byte, string or value is cut by the frame's end, or its zero byte is missing */
     TUSWERAM_NOT_ALLOWED = 7,        /* a target or status that is none, or a value's length below -1 */
     TUSWERAM_BYTES_LEFT = 8,         /* bytes are left over after the last field */
@@ -177,7 +177,9 @@ size_t tusweram_encode(size_t kind, uint8_t byte, int32_t first, int32_t second,
  *   ERROR_RESPONSE, NOTICE_RESPONSE    one codes, words lengths, joined texts
  *   COPY_IN_RESPONSE, COPY_OUT_RESPONSE, COPY_BOTH_RESPONSE    format, formats
  *   STARTUP                  words lengths, joined texts
- */
+ *
+ * A list of PARSE, BIND or PARAMETER_DESCRIPTION has at most 65,535 elements, one of DATA_ROW or a copy response at most 32,767; a longer one is
+ * refusal 10. */
 size_t tusweram_encode_lists(size_t kind, int8_t format, const uint8_t *one, size_t one_len, const uint8_t *two, size_t two_len,
                              const uint8_t *joined, size_t joined_len, const uint32_t *words, size_t words_len, const int32_t *lengths,
                              size_t lengths_len, const int16_t *formats, size_t formats_len, const int16_t *results, size_t results_len,
@@ -195,7 +197,7 @@ struct tusweram_field_description {
     int16_t format_code;
 };
 
-/* A ROW_DESCRIPTION. */
+/* A ROW_DESCRIPTION, of at most 32,767 fields; more are refusal 10. */
 size_t tusweram_encode_row_description(const struct tusweram_field_description *fields, size_t fields_len, const uint8_t *run, size_t run_len,
                                        uint8_t *out, size_t out_len);
 

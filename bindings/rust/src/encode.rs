@@ -1,8 +1,8 @@
 //! An encoder for each kind. It writes the frame at the start of `out`, answers how many bytes that is, and keeps every later byte; where it
 //! refuses, nothing is written.
 //!
-//! - Refusal 10: what is given cannot be written: a text with a zero byte, a list of more than 32,767 elements where a count is written, and the
-//!   like.
+//! - Refusal 10: what is given cannot be written: a text with a zero byte, a list with more elements than its count can say, and the like. A
+//!   count of [`parse`], [`bind`] or [`parameter_description`] says up to 65,535, every other up to 32,767.
 //! - Refusal 4: the frame would be above its kind's limit.
 //! - Refusal 9: `out` is too short.
 //!

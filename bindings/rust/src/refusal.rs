@@ -10,7 +10,7 @@ pub const TYPE_UNKNOWN: u8 = 2;
 pub const LENGTH_TOO_SMALL: u8 = 3;
 /// The length is above the kind's limit.
 pub const LENGTH_ABOVE_LIMIT: u8 = 4;
-/// A count is negative, or larger than the bytes after it allow.
+/// A signed count is negative, or a count is larger than the bytes after it allow.
 pub const BAD_COUNT: u8 = 5;
 /// A number, code byte, string or value is cut by the frame's end.
 pub const CUT: u8 = 6;

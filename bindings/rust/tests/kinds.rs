@@ -1,15 +1,17 @@
-//! Every kind: bytes by hand from docs/FORMAT.md, the encoder that writes them, the message that they are, the numbers at the boundary, and
-//! what the encoder refuses of each text, list and byte.
+//! Every kind: bytes by hand from docs/FORMAT.md, the encoder that writes them, the message that they are, the numbers at the boundary, its
+//! longest lists, and what the encoder refuses of each text, list and byte.
 
 mod common;
 
-use common::{cannot, cuts_wait, round_trip};
+use common::kinds::walked;
+use common::{cannot, cuts_wait, round_trip, same_row, set_length};
 use tusweram::*;
 
-/// A length has one of two limits, and a list at most as many elements as its count can say.
+/// A length has one of two limits, and a count, signed or unsigned, can say one of two numbers of elements at most.
 const SMALL: usize = 8192;
 const LARGE: usize = 1048576;
-const COUNT: usize = 32767;
+const SIGNED: usize = 32767;
+const UNSIGNED: usize = 65535;
 
 /// `numbers` are those from the fifth on: the kind's number and its fields'.
 fn kind<'a>(mode: Mode, frame: &'a [u8], numbers: &[usize], write: impl Fn(&mut [u8]) -> Encoded) -> Message<'a> {
@@ -50,15 +52,73 @@ fn text(limit: usize, write: impl Fn(&[u8], &mut [u8]) -> Encoded) {
     assert_eq!(out, [0; 64]);
 }
 
-/// A list: `most` elements are written; one more is refusal 4 where the kind's limit leaves no room for it, and more than a count can say are 10.
-fn list(most: usize, write: impl Fn(usize, &mut [u8]) -> Encoded) {
+/// Elements of a long list, each of which tells its number: the bytes of one, and what is read as element `i`.
+struct Elements {
+    bytes: usize,
+    read: fn(usize) -> Element<'static>,
+}
+
+const OIDS: Elements = Elements { bytes: 4, read: |i| Element::Oid(oid(i)) };
+const FORMATS: Elements = Elements { bytes: 2, read: |i| Element::Format(format_code(i)) };
+const VALUES: Elements = Elements { bytes: 4, read: |i| if length(i) < 0 { Element::Null } else { Element::Value(b"") } };
+const FIELDS: Elements = Elements { bytes: 21, read: |i| Element::Field(field_read(i)) };
+
+fn oid(i: usize) -> u32 {
+    u32::MAX - i as u32
+}
+
+fn format_code(i: usize) -> i16 {
+    i as i16
+}
+
+fn length(i: usize) -> i32 {
+    if i % 3 == 0 {
+        -1
+    } else {
+        0
+    }
+}
+
+/// Its name is the run `id`.
+fn field(i: usize) -> FieldDescription {
+    FieldDescription { name: Span { start: 0, len: 2 }, table_id: i as i32, ..FieldDescription::default() }
+}
+
+fn field_read(i: usize) -> Field<'static> {
+    Field { name: b"id", table_id: i as i32, column_id: 0, type_id: 0, type_size: 0, type_modifier: 0, format_code: 0 }
+}
+
+fn many<T>(n: usize, one: fn(usize) -> T) -> Vec<T> {
+    (0..n).map(one).collect()
+}
+
+/// The list of that number has just these elements, read in one pass, and the last is the element call's last.
+fn has(mode: Mode, frame: &[u8], number: usize, n: usize, elements: &Elements) {
+    let Decoded::Record(message, consumed) = decode(mode, frame) else { panic!("{n} elements are not read") };
+    assert_eq!(consumed, frame.len());
+    assert!(walked(&message)[number].iter().copied().eq((0..n).map(elements.read)), "{n} elements");
+    assert_eq!(element(mode, frame, number, n - 1), (elements.read)(n - 1));
+    assert_eq!(element(mode, frame, number, n), Element::Refused(Refusal { number: refusal::NO_SUCH_ELEMENT, place: 0 }));
+    if let Message::DataRow(row) = message {
+        same_row(frame, &row);
+    }
+}
+
+/// A list, by its number among the kind's: up to `most` elements are written, and read again as they were given. One more is refusal 4 where the
+/// kind's limit leaves no room for it, and more than its count can say are 10.
+fn list(most: usize, mode: Mode, number: usize, elements: Elements, write: impl Fn(usize, &mut [u8]) -> Encoded) {
     let mut out = vec![0; LARGE];
-    assert!(write(most, &mut out).is_ok());
+    let empty = write(0, &mut out).unwrap();
+    for n in [SIGNED, SIGNED + 1].into_iter().filter(|n| *n < most).chain([most]) {
+        let size = empty + n * elements.bytes;
+        assert_eq!(write(n, &mut out), Ok(size));
+        has(mode, &out[..size], number, n, &elements);
+    }
     out.fill(0);
-    if most < COUNT {
+    if most < SIGNED {
         cannot(4, write(most + 1, &mut out));
     }
-    cannot(10, write(COUNT + 1, &mut out));
+    cannot(10, write(most.max(SIGNED) + 1, &mut out));
     assert!(out.iter().all(|byte| *byte == 0));
 }
 
@@ -83,7 +143,7 @@ fn parse() {
     assert_eq!((m.type_oids.len(), m.type_oids.is_empty(), m.type_oids.iter().len()), (2, false, 2));
     text(LARGE, |name, out| encode::parse(name, b"", &[], out));
     text(LARGE, |query, out| encode::parse(b"", query, &[], out));
-    list(COUNT, |n, out| encode::parse(b"", b"", &vec![0; n], out));
+    list(UNSIGNED, Mode::Frontend, 0, OIDS, |n, out| encode::parse(b"", b"", &many(n, oid), out));
 }
 
 #[test]
@@ -100,9 +160,9 @@ fn bind() {
     text(LARGE, |portal, out| encode::bind(portal, b"", &[], &[], b"", &[], out));
     text(LARGE, |statement, out| encode::bind(b"", statement, &[], &[], b"", &[], out));
     limited(LARGE, |value, out| encode::bind(b"", b"", &[], &[value.len() as i32], value, &[], out));
-    list(COUNT, |n, out| encode::bind(b"", b"", &vec![0; n], &[], b"", &[], out));
-    list(COUNT, |n, out| encode::bind(b"", b"", &[], &vec![-1; n], b"", &[], out));
-    list(COUNT, |n, out| encode::bind(b"", b"", &[], &[], b"", &vec![0; n], out));
+    list(UNSIGNED, Mode::Frontend, 0, FORMATS, |n, out| encode::bind(b"", b"", &many(n, format_code), &[], b"", &[], out));
+    list(UNSIGNED, Mode::Frontend, 1, VALUES, |n, out| encode::bind(b"", b"", &[], &many(n, length), b"", &[], out));
+    list(UNSIGNED, Mode::Frontend, 2, FORMATS, |n, out| encode::bind(b"", b"", &[], &[], b"", &many(n, format_code), out));
 }
 
 #[test]
@@ -113,6 +173,32 @@ fn bind_of_one_null() {
     let Message::Bind(m) = m else { panic!("{m:?}") };
     assert!(m.parameters.iter().eq([None]));
     assert!(m.parameter_format_codes.is_empty() && m.result_column_format_codes.is_empty());
+}
+
+/// Device numbers, of which each seventh is not known.
+#[test]
+fn bind_of_40000_values() {
+    let given: Vec<_> = (0..40000).map(|i| (i % 7 != 0).then(|| i.to_string().into_bytes())).collect();
+    let lengths: Vec<_> = given.iter().map(|value| value.as_ref().map_or(-1, |value| value.len() as i32)).collect();
+    let mut frame = b"B\0\0\0\0\0\0\0\0\x9c\x40".to_vec();
+    for (length, value) in lengths.iter().zip(&given) {
+        frame.extend_from_slice(&length.to_be_bytes());
+        frame.extend_from_slice(value.as_deref().unwrap_or_default());
+    }
+    frame.extend_from_slice(b"\0\0");
+    set_length(Mode::Frontend, &mut frame);
+
+    let joined: Vec<_> = given.iter().flatten().flatten().copied().collect();
+    let mut out = vec![0; frame.len()];
+    assert_eq!(encode::bind(b"", b"", &[], &lengths, &joined, &[], &mut out), Ok(frame.len()));
+    assert!(out == frame);
+    let Decoded::Record(Message::Bind(m), consumed) = decode(Mode::Frontend, &frame) else { panic!("no Bind") };
+    assert_eq!((consumed, m.parameters.len()), (frame.len(), 40000));
+    assert!(m.parameters.iter().eq(given.iter().map(|value| value.as_deref())));
+    for number in [0, 1, 32766, 32767, 32768, 39998, 39999] {
+        let value = given[number].as_deref().map_or(Element::Null, Element::Value);
+        assert_eq!(element(Mode::Frontend, &frame, 1, number), value);
+    }
 }
 
 #[test]
@@ -218,7 +304,7 @@ fn a_name_and_the_fields_of_a_row_description() {
         let field = FieldDescription { name: Span { start: 0, len: name.len() }, ..FieldDescription::default() };
         encode::row_description(&[field], name, out)
     });
-    list(COUNT, |n, out| encode::row_description(&vec![FieldDescription::default(); n], b"", out));
+    list(SIGNED, Mode::Backend, 0, FIELDS, |n, out| encode::row_description(&many(n, field), b"id", out));
 }
 
 #[test]
@@ -227,7 +313,7 @@ fn parameter_description() {
     let m = kind(Mode::Backend, &frame[..], &[18, 7, 2], |out| encode::parameter_description(&[25, 2147483648], out));
     let Message::ParameterDescription(m) = m else { panic!("{m:?}") };
     assert!(m.types.iter().eq([25, 2147483648]));
-    list(COUNT, |n, out| encode::parameter_description(&vec![0; n], out));
+    list(UNSIGNED, Mode::Backend, 0, OIDS, |n, out| encode::parameter_description(&many(n, oid), out));
 }
 
 #[test]
@@ -240,7 +326,7 @@ fn a_data_row() {
     assert_eq!(m.data.iter().next().unwrap().unwrap().as_ptr(), frame[11..].as_ptr());
     kind(Mode::Backend, b"D\0\0\0\x06\0\0", &[19, 7, 0], |out| encode::data_row(&[], b"", out));
     limited(LARGE, |value, out| encode::data_row(&[value.len() as i32], value, out));
-    list(COUNT, |n, out| encode::data_row(&vec![-1; n], b"", out));
+    list(SIGNED, Mode::Backend, 0, VALUES, |n, out| encode::data_row(&many(n, length), b"", out));
 }
 
 #[test]
@@ -290,9 +376,9 @@ fn copy_responses() {
     let Message::CopyBothResponse(m) = m else { panic!("{m:?}") };
     assert_eq!(m.format, -128);
     assert!(m.column_formats.iter().eq([258]));
-    list(4092, |n, out| encode::copy_in_response(0, &vec![0; n], out));
-    list(4092, |n, out| encode::copy_out_response(0, &vec![0; n], out));
-    list(4092, |n, out| encode::copy_both_response(0, &vec![0; n], out));
+    list(4092, Mode::Backend, 0, FORMATS, |n, out| encode::copy_in_response(0, &many(n, format_code), out));
+    list(4092, Mode::Backend, 0, FORMATS, |n, out| encode::copy_out_response(0, &many(n, format_code), out));
+    list(4092, Mode::Backend, 0, FORMATS, |n, out| encode::copy_both_response(0, &many(n, format_code), out));
 }
 
 #[test]
@@ -405,25 +491,4 @@ fn the_largest_frames() {
     frame[4000] = 0;
     frame[8190..].fill(0);
     round_trip(Mode::FirstPacket, &frame);
-    // as many values as a count can say
-    let lengths = [-1; 32767];
-    let mut out = vec![0; 131075];
-    assert_eq!(encode::data_row(&lengths, b"", &mut out), Ok(131075));
-    let Decoded::Record(Message::DataRow(row), 131075) = decode(Mode::Backend, &out) else { panic!() };
-    assert_eq!(row.data.iter().filter(|value| value.is_none()).count(), 32767);
-    common::same_row(&out, &row);
-    // as many fields as a count can say: their bytes are read once each
-    let field = FieldDescription {
-        name: Span { start: 0, len: 2 },
-        table_id: 0,
-        column_id: 0,
-        type_id: 23,
-        type_size: 4,
-        type_modifier: -1,
-        format_code: 0,
-    };
-    let mut out = vec![0; 7 + 32767 * 21];
-    assert_eq!(encode::row_description(&[field; 32767], b"id", &mut out), Ok(out.len()));
-    let Decoded::Record(Message::RowDescription(row), _) = decode(Mode::Backend, &out) else { panic!() };
-    assert_eq!(row.fields.iter().filter(|field| field.name == b"id" && field.type_id == 23).count(), 32767);
 }

@@ -2,18 +2,21 @@
 
 mod common;
 
-use common::{cannot, hex, is_kind};
+use common::{cannot, hex, is_kind, set_length};
 use tusweram::*;
 
 fn refused(mode: Mode, text: &str, number: u8, place: usize) {
-    let buf = hex(text);
+    refused_bytes(mode, &hex(text), number, place, text);
+}
+
+fn refused_bytes(mode: Mode, buf: &[u8], number: u8, place: usize, text: &str) {
     let refusal = Refusal { number, place };
-    assert_eq!(decode(mode, &buf), Decoded::Refused(refusal), "{text}");
+    assert_eq!(decode(mode, buf), Decoded::Refused(refusal), "{text}");
     // decoding's own refusal comes first, whichever element is asked for
-    assert_eq!(element(mode, &buf, 0, 0), Element::Refused(refusal), "{text}");
-    assert_eq!(element(mode, &buf, 9, usize::MAX), Element::Refused(refusal), "{text}");
+    assert_eq!(element(mode, buf, 0, 0), Element::Refused(refusal), "{text}");
+    assert_eq!(element(mode, buf, 9, usize::MAX), Element::Refused(refusal), "{text}");
     if mode == Mode::Backend {
-        assert_eq!(data_row(&buf, &mut [], &mut []), Row::Refused(refusal), "{text}");
+        assert_eq!(data_row(buf, &mut [], &mut []), Row::Refused(refusal), "{text}");
     }
 }
 
@@ -105,6 +108,46 @@ fn refusal_5_count() {
     refused(Mode::Frontend, "50 00 00 00 0B 00 00 00 01 00 00 00", 5, 7);
     refused(Mode::Frontend, "42 00 00 00 0C 00 00 00 00 00 00 00 01", 5, 11);
     refused(Mode::Backend, "47 00 00 00 07 00 80 00", 5, 6);
+    // an unsigned count too is refused where its elements are not there
+    refused(Mode::Frontend, "50 00 00 00 08 00 00 FF FF", 5, 7);
+    refused(Mode::Frontend, "42 00 00 00 0C 00 00 80 00 00 00 00 00", 5, 7);
+    refused(Mode::Backend, "74 00 00 00 06 80 00", 5, 5);
+}
+
+/// The counted lists that can be long, in frames whose other fields are empty: the mode, the type byte, where the count stands, the bytes of the
+/// smallest element, the bytes behind the last one, and the most that the count can say.
+const LONG: &[(Mode, u8, usize, usize, usize, usize)] = &[
+    (Mode::Frontend, b'P', 7, 4, 0, 65535),
+    (Mode::Frontend, b'B', 7, 2, 4, 65535),
+    (Mode::Frontend, b'B', 9, 4, 2, 65535),
+    (Mode::Frontend, b'B', 11, 2, 0, 65535),
+    (Mode::Backend, b't', 5, 4, 0, 65535),
+    (Mode::Backend, b'T', 5, 19, 0, 32767),
+    (Mode::Backend, b'D', 5, 4, 0, 32767),
+];
+
+#[test]
+fn refusal_5_of_a_long_list() {
+    for &(mode, byte, at, element, behind, most) in LONG {
+        // the top bit clear, the top bit set, and the most
+        for count in [32767, 32768, most] {
+            let text = format!("{} at {at}, {count} elements", byte as char);
+            // zeros are smallest elements, empty texts and empty lists
+            let elements_end = at + 2 + count * element;
+            let mut frame = vec![0; elements_end + behind];
+            frame[0] = byte;
+            frame[at..at + 2].copy_from_slice(&(count as u16).to_be_bytes());
+            set_length(mode, &mut frame);
+            if count > most {
+                refused_bytes(mode, &frame, 5, at, &text);
+            } else {
+                assert!(matches!(decode(mode, &frame), Decoded::Record(_, n) if n == frame.len()), "{text}");
+            }
+            frame.truncate(elements_end - 1);
+            set_length(mode, &mut frame);
+            refused_bytes(mode, &frame, 5, at, &text);
+        }
+    }
 }
 
 #[test]
