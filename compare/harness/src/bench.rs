@@ -219,7 +219,8 @@ fn each_by_a_call(p: &mut Points, name: String, (start, end): (usize, usize), n:
     })
 }
 
-/// The values of a Bind, each by a call, and an element call for the last.
+/// The values of a Bind, each by a call, and an element call for the last. Not inlined, so that the loops of the other points are compiled without it.
+#[inline(never)]
 fn parameters(p: &mut Points) -> Vec<Single> {
     let mut all = Vec::new();
     for n in [900, 40_000] {
