@@ -219,7 +219,7 @@ fn each_by_a_call(p: &mut Points, name: String, (start, end): (usize, usize), n:
     })
 }
 
-/// The values of a Bind, each by a call, and an element call for the last. Not inlined, so that the loops of the other points are compiled without it.
+/// The values of a Bind, each by a call, and an element call for the last. It is not inlined, so that it changes no other point's loop.
 #[inline(never)]
 fn parameters(p: &mut Points) -> Vec<Single> {
     let mut all = Vec::new();
