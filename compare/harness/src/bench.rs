@@ -6,7 +6,7 @@
 //! Both forms go through the same points in the same order, so that a count is known by its place.
 
 use crate::content::{Content, Field, RowField};
-use crate::model::{self, named, Framing, KINDS};
+use crate::model::{self, named, Count, Framing, KINDS};
 use crate::{oracle, ours};
 use bytes::BytesMut;
 use std::collections::BTreeMap;
@@ -155,6 +155,7 @@ fn generated(p: &mut Points) -> Vec<Costs> {
         let texts: &[usize] = if k.has(&[Str, Rest, Values, RowFields, Errors, Pairs]) { &[8, 64, 1024] } else { &[0] };
         let lists: &[usize] = match k.body {
             [Pairs] => &[2, 10],
+            _ if k.counts == Count::Unsigned => &[1, 10, 100, 900, 40_000],
             _ if k.has(&[Oids, Formats, Values, RowFields]) => &[1, 10, 100, 900],
             _ => &[1],
         };
@@ -216,6 +217,23 @@ fn each_by_a_call(p: &mut Points, name: String, (start, end): (usize, usize), n:
         }
         assert!(at == end);
     })
+}
+
+/// The values of a Bind, each by a call, and an element call for the last. It is not inlined, so that it changes no other point's loop.
+#[inline(never)]
+fn parameters(p: &mut Points) -> Vec<Single> {
+    let mut all = Vec::new();
+    for n in [900, 40_000] {
+        let f = frame_of("Bind", 8, n);
+        let model::Answer::Record(kind, _, slots) = model::decode(0, &f) else { panic!("a frame that is taken") };
+        let [_, (_, start, _), (_, results, _)] = model::lists(kind, &slots)[..] else { panic!("Bind has three lists") };
+        let name = format!("Bind of {n} values: each value by a call, after decode");
+        all.push(each_by_a_call(p, name, (start, results - 2), n, |at| ours::value(black_box(&f), at)));
+        all.push(single(p, format!("Bind of {n} values: an element call for the last"), &mut || {
+            black_box(&ours::element(0, black_box(&f), 1, n - 1));
+        }));
+    }
+    all
 }
 
 /// What the reader and an element call cost on a row of up to 900 columns.
@@ -310,7 +328,7 @@ pub fn run(traffic: &[(u8, Vec<u8>)], counts: Option<Vec<u64>>) {
     });
     let real = real(&mut p, traffic);
     let generated = generated(&mut p);
-    let singles: Vec<Single> = [rows(&mut p), walks(&mut p), strings(&mut p)].into_iter().flatten().collect();
+    let singles: Vec<Single> = [rows(&mut p), parameters(&mut p), walks(&mut p), strings(&mut p)].into_iter().flatten().collect();
     if !show {
         return;
     }
@@ -330,11 +348,17 @@ fn growth(generated: &[Costs], singles: &[Single]) {
         let pairs = [
             (format!("{}, strings of 8, 100 elements", k.name), format!("{}, strings of 8, 900 elements", k.name), "element"),
             (format!("{}, 100 elements", k.name), format!("{}, 900 elements", k.name), "element"),
+            (format!("{}, strings of 8, 900 elements", k.name), format!("{}, strings of 8, 40000 elements", k.name), "element past 900"),
+            (format!("{}, 900 elements", k.name), format!("{}, 40000 elements", k.name), "element past 900"),
             (format!("{}, strings of 64", k.name), format!("{}, strings of 1024", k.name), "byte"),
         ];
         for (few, many, what) in pairs {
             if let (Some(a), Some(b)) = (find(&few), find(&many)) {
-                let by = if what == "byte" { (b.bytes - a.bytes) as f64 } else { 800.0 };
+                let by = match what {
+                    "byte" => (b.bytes - a.bytes) as f64,
+                    "element" => 800.0,
+                    _ => 39_100.0,
+                };
                 let slope = |f: fn(&Costs) -> f64| (f(b) - f(a)) / by;
                 println!(
                     "| {}, one more {what} | {:.2} | {:.2} | {:.2} | {:.2} |",
@@ -347,6 +371,10 @@ fn growth(generated: &[Costs], singles: &[Single]) {
             }
         }
     }
+    growth_of_calls(singles);
+}
+
+fn growth_of_calls(singles: &[Single]) {
     let cost = |name: &str| singles.iter().find(|s| s.name == name).map_or(0.0, |s| s.cost);
     for (of, what) in [
         ("row", "decoded, and every value placed, in one call"),

@@ -26,7 +26,20 @@ pub enum Field {
     Errors(Vec<(u8, Vec<u8>)>),
     Pairs(Vec<Pair>),
     /// A DataRow as the Rust keeps it: the count, and the bytes after it, not taken apart.
-    Unread(i16, Vec<u8>),
+    Unread(i64, Vec<u8>),
+}
+
+impl Field {
+    /// How many elements a list with a count has.
+    pub fn counted(&self) -> usize {
+        match self {
+            Field::Oids(list) => list.len(),
+            Field::Formats(list) => list.len(),
+            Field::Values(list) => list.len(),
+            Field::RowFields(list) => list.len(),
+            _ => 0,
+        }
+    }
 }
 
 /// A kind by its number (the numbers of the rows, protocol/specs Kinds) and its fields from left to right.
@@ -64,7 +77,7 @@ impl Content {
     /// of one name both stay. A DataRow is values and nothing else.
     pub fn kept(&self) -> Content {
         let field = match &self.fields[..] {
-            [Field::Values(values)] => Field::Unread(values.len() as i16, joined(values)),
+            [Field::Values(values)] => Field::Unread(values.len() as i64, joined(values)),
             [Field::Pairs(pairs)] => Field::Pairs(sorted(pairs)),
             _ => return self.clone(),
         };

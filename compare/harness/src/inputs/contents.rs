@@ -2,7 +2,7 @@
 
 use super::Rng;
 use crate::content::{Content, Field, Pair, RowField};
-use crate::model::{self, numbered, Framing, Given, Kind, Part, MOST_ELEMENTS, REFUSES, STATUSES, TARGETS};
+use crate::model::{self, numbered, Answer, Framing, Given, Kind, Part, Slot, REFUSES, STATUSES, TARGETS};
 
 pub fn content(r: &mut Rng, kind: &Kind) -> Content {
     let mut fields: Vec<Field> = kind.body.iter().map(|p| part(r, *p)).collect();
@@ -20,18 +20,45 @@ fn part(r: &mut Rng, p: Part) -> Field {
         Part::I32 => Field::Num(r.number() as i64),
         Part::Target => Field::Num(*r.pick(TARGETS) as i64),
         Part::Status => Field::Num(*r.pick(STATUSES) as i64),
-        Part::Oids => Field::Oids((0..r.few()).map(|_| r.number() as u32).collect()),
-        Part::Formats => Field::Formats((0..r.few()).map(|_| r.format()).collect()),
-        Part::Values => Field::Values((0..r.few()).map(|_| if r.one_in(4) { None } else { Some(r.bytes()) }).collect()),
-        Part::RowFields => Field::RowFields((0..r.few()).map(|_| row_field(r)).collect()),
-        Part::Errors => Field::Errors((0..r.few()).map(|_| ((r.below(255) + 1) as u8, r.text())).collect()),
-        Part::Pairs => Field::Pairs(pairs(r)),
+        _ => {
+            let n = r.few();
+            list(r, p, n)
+        }
     }
 }
 
+fn list(r: &mut Rng, p: Part, n: usize) -> Field {
+    match p {
+        Part::Oids => Field::Oids((0..n).map(|_| r.number() as u32).collect()),
+        Part::Formats => Field::Formats((0..n).map(|_| r.format()).collect()),
+        Part::Values => Field::Values((0..n).map(|_| if r.one_in(4) { None } else { Some(r.bytes()) }).collect()),
+        Part::RowFields => Field::RowFields((0..n).map(|_| row_field(r)).collect()),
+        Part::Errors => Field::Errors((0..n).map(|_| ((r.below(255) + 1) as u8, r.text())).collect()),
+        Part::Pairs => Field::Pairs(pairs(r, n)),
+        _ => unreachable!("{p:?} is no list"),
+    }
+}
+
+/// A content with `n` elements in one of its lists, and UTF-8 text, so that the Rust has a form for it; and where the list's count stands.
+pub fn with_list_of(r: &mut Rng, kind: &Kind, field: usize, n: usize) -> (Content, usize) {
+    let mut c = content(r, kind);
+    while c.lossy() != c {
+        c = content(r, kind);
+    }
+    c.fields[field] = list(r, kind.body[field], 0);
+    let Answer::Record(_, _, slots) = model::decode(kind.mode, &frame(&c)) else { unreachable!("a frame that is taken") };
+    let Slot::List(start, _) = slots[field] else { unreachable!("a list") };
+    c.fields[field] = list(r, kind.body[field], n);
+    // with longer names the frame would pass the limit
+    if let Field::RowFields(fields) = &mut c.fields[field] {
+        fields.iter_mut().for_each(|f| f.name.clear());
+    }
+    (c, start - 2)
+}
+
 /// Pairs whose names are not empty; at times the last has the name of the first.
-fn pairs(r: &mut Rng) -> Vec<Pair> {
-    let mut pairs: Vec<Pair> = (0..r.few()).map(|i| ([&[b'a' + i as u8][..], &r.text()].concat(), r.text())).collect();
+fn pairs(r: &mut Rng, n: usize) -> Vec<Pair> {
+    let mut pairs: Vec<Pair> = (0..n).map(|i| ([&[b'a' + i as u8][..], &r.text()].concat(), r.text())).collect();
     if pairs.len() > 1 && r.one_in(4) {
         last(&mut pairs).0 = pairs[0].0.clone();
     }
@@ -76,7 +103,8 @@ pub fn frame(c: &Content) -> Vec<u8> {
 /// Makes the frame longer by `n` bytes, where a string, a value or a rest allows it; else by as many elements as `n` bytes are.
 pub fn stretched(c: &Content, n: usize) -> Option<Content> {
     let mut c = c.clone();
-    let longer = c.fields.iter_mut().rev().any(|f| stretch_bytes(f, n)) || c.fields.iter_mut().rev().any(|f| stretch_numbers(f, n));
+    let most = numbered(c.kind).counts.most();
+    let longer = c.fields.iter_mut().rev().any(|f| stretch_bytes(f, n)) || c.fields.iter_mut().rev().any(|f| stretch_numbers(f, n, most));
     longer.then_some(c)
 }
 
@@ -92,10 +120,10 @@ fn stretch_bytes(f: &mut Field, n: usize) -> bool {
     bytes.map(|t| t.resize(t.len() + n, b'x')).is_some()
 }
 
-fn stretch_numbers(f: &mut Field, n: usize) -> bool {
+/// No more than `most`, which a count can say.
+fn stretch_numbers(f: &mut Field, n: usize, most: usize) -> bool {
     match f {
-        // no more than a count can say
-        Field::Oids(oids) => oids.resize((oids.len() + n / 4).min(MOST_ELEMENTS), 23),
+        Field::Oids(oids) => oids.resize((oids.len() + n / 4).min(most), 23),
         Field::Formats(formats) => formats.resize(formats.len() + n / 2, 1),
         _ => return false,
     }
@@ -111,13 +139,14 @@ pub fn spoiled(r: &mut Rng, c: &Content) -> Content {
     }
     let i = r.below(n);
     let long = r.one_in(64);
-    let part = numbered(c.kind).body.get(i);
+    let kind = numbered(c.kind);
+    let too_many = kind.counts.most() + 1;
     match &mut c.fields[i] {
         Field::Text(t) => {
             let at = r.below(t.len() + 1);
             t.insert(at, 0);
         }
-        Field::Num(b) if matches!(part, Some(Part::Target | Part::Status)) => *b = r.below(256) as i64,
+        Field::Num(b) if matches!(kind.body.get(i), Some(Part::Target | Part::Status)) => *b = r.below(256) as i64,
         Field::RowFields(fields) if !fields.is_empty() => fields[0].name.push(0),
         Field::Errors(es) if !es.is_empty() && r.one_in(2) => es[0].0 = 0,
         Field::Errors(es) if !es.is_empty() => es[0].1.insert(0, 0),
@@ -126,9 +155,9 @@ pub fn spoiled(r: &mut Rng, c: &Content) -> Content {
             1 => ps[0].0.push(0),
             _ => ps[0].1.push(0),
         },
-        Field::Oids(o) if long => o.resize(MOST_ELEMENTS + 1, 1),
-        Field::Formats(f) if long => f.resize(MOST_ELEMENTS + 1, 1),
-        Field::Values(v) if long => v.resize(MOST_ELEMENTS + 1, None),
+        Field::Oids(o) if long => o.resize(too_many, 1),
+        Field::Formats(f) if long => f.resize(too_many, 1),
+        Field::Values(v) if long => v.resize(too_many, None),
         _ => {}
     }
     c

@@ -47,10 +47,9 @@ pub fn around(run: &mut Run, r: &mut Rng, mode: u8, f: &[u8], next: &[u8], all: 
     }
 }
 
-/// One byte changed, alone and with another frame behind.
+/// One byte changed.
 fn changed(run: &mut Run, r: &mut Rng, mode: u8, f: &[u8], next: &[u8], at: usize) {
-    let mut f = f.to_vec();
-    f[at] = match r.below(6) {
+    let byte = match r.below(6) {
         0 => 0,
         1 => 255,
         2 => f[at].wrapping_add(1),
@@ -58,13 +57,20 @@ fn changed(run: &mut Run, r: &mut Rng, mode: u8, f: &[u8], next: &[u8], at: usiz
         4 => f[at] ^ 128,
         _ => r.next() as u8,
     };
+    replaced(run, mode, f, next, at, &[byte]);
+}
+
+/// Other bytes at a place, alone and with another frame behind.
+pub fn replaced(run: &mut Run, mode: u8, f: &[u8], next: &[u8], at: usize, bytes: &[u8]) {
+    let mut f = f.to_vec();
+    f[at..at + bytes.len()].copy_from_slice(bytes);
     run.decode(mode, &f);
     f.extend_from_slice(next);
     run.decode(mode, &f);
 }
 
 /// Cut at a place, with a length that says so: alone, with the rest of the frame behind, and with another frame behind.
-fn mended(run: &mut Run, mode: u8, f: &[u8], next: &[u8], at: usize) {
+pub fn mended(run: &mut Run, mode: u8, f: &[u8], next: &[u8], at: usize) {
     let f = with_length(mode, f, at as i32 - f.len() as i32);
     run.decode(mode, &f[..at]);
     run.decode(mode, &f);

@@ -1,10 +1,12 @@
-//! Frames that are made: every short one, random ones of every kind, and sizes around the limits.
+//! Frames that are made: every short one, random ones of every kind, sizes around the limits, and long lists.
 
-use super::contents::{content, frame, misgiven, spoiled, stretched};
-use super::damaged::{around, with_length};
+use super::contents::{content, frame, misgiven, spoiled, stretched, with_list_of};
+use super::damaged::{around, mended, replaced, with_length};
 use super::Rng;
+use crate::content::{joined, Content, Field};
 use crate::judging::Run;
-use crate::model::{Framing, Kind, KINDS};
+use crate::model::{numbered, Count, Framing, Kind, KINDS};
+use crate::oracle;
 
 /// The bytes that short frames are made of, the most telling first.
 pub const ALPHABET: [u8; 6] = [0, 6, 255, 5, 1, b'S'];
@@ -116,6 +118,46 @@ fn one_byte_off(run: &mut Run, mode: u8, f: &[u8]) {
     let longer = [f, &[0]].concat();
     run.decode(mode, &longer);
     run.decode(mode, &with_length(mode, &longer, 1));
+}
+
+/// Each list with a count, of as many elements as a signed count can say and an unsigned one, of one more, and of some between: written; and read,
+/// whole and damaged, as the Rust writes it: that has the bytes of all elements, also where the count cannot say so many.
+pub fn long_lists(run: &mut Run, r: &mut Rng, turns: usize) {
+    run.from("lists of 32,767 to 65,536 elements");
+    let (signed, unsigned) = (Count::Signed.most(), Count::Unsigned.most());
+    let lists = |k: &'static Kind| (0..k.body.len()).filter(move |i| k.body[*i].smallest_element().is_some()).map(move |i| (k, i));
+    for (k, field) in (0..turns).flat_map(|_| KINDS.iter().flat_map(lists)) {
+        let between = signed + 1 + r.below(unsigned - signed);
+        for n in [signed, signed + 1, 40_000, between, unsigned, unsigned + 1] {
+            let (c, at) = with_list_of(r, k, field, n);
+            run.encode(&c);
+            if let Some(Ok(f)) = oracle::encode(&c) {
+                around_list(run, r, &f, &c, field, at);
+            }
+        }
+    }
+}
+
+/// The frame of a content with a long list, whose count stands at a place: as it is; before another frame; cut, with the length word mended, where
+/// a byte is lacking of what the count needs, where none is, and anywhere; with other counts; and with a value's length below -1.
+fn around_list(run: &mut Run, r: &mut Rng, f: &[u8], c: &Content, field: usize, at: usize) {
+    let k = numbered(c.kind);
+    let next = frame(&content(r, k));
+    run.decode(k.mode, f);
+    run.decode(k.mode, &[f, &next].concat());
+    let (n, first) = (c.fields[field].counted(), at + 2);
+    let needed = first + n * k.body[field].smallest_element().expect("a list with a count");
+    for cut in [needed - 1, needed, first + r.below(f.len() - first), f.len() - 1] {
+        mended(run, k.mode, f, &next, cut);
+    }
+    let signed = Count::Signed.most();
+    for count in [n - 1, n + 1, signed + 1 + r.below(signed + 1)] {
+        replaced(run, k.mode, f, &next, at, &(count as u16).to_be_bytes());
+    }
+    if let Field::Values(values) = &c.fields[field] {
+        let place = first + joined(&values[..r.below(n)]).len();
+        replaced(run, k.mode, f, &next, place, &(-2i32).to_be_bytes());
+    }
 }
 
 /// The header of a frame alone, with lengths around every limit of either side.

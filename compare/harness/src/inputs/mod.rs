@@ -22,6 +22,8 @@ pub fn everything(run: &mut Run, count: u64, seed: u64, folder: &str) {
     generated::exhaustive(run, alphabet);
     generated::first_packets(run, alphabet);
     generated::boundaries(run, &mut r, if count > 2_000_000 { 8 } else { 1 });
+    // one of these takes as long as thousands of others
+    generated::long_lists(run, &mut r.clone(), (count / 1_000_000).clamp(1, 50) as usize);
     real::real_traffic(run, &mut r, &traffic, if count > 2_000_000 { 4 } else { 16 });
     // a third at least are random
     let count = count.max(run.cases + count / 3);

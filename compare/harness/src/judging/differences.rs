@@ -18,16 +18,11 @@ use Verdict::*;
 
 /// The entries, in the order of docs/DIFFERENCES.md.
 #[rustfmt::skip]
-pub const ENTRIES: [&str; 25] = [
-    "mode", "one-byte", "left-out", "copy-fail-from-backend", "answer-byte", "negative-length", "short-length", "limits", "signed-count",
+pub const ENTRIES: [&str; 24] = [
+    "mode", "one-byte", "left-out", "copy-fail-from-backend", "answer-byte", "negative-length", "short-length", "limits",
     "count", "missing-zero", "past-the-frame", "cut", "bytes-left", "target", "value-length", "data-row", "error-fields", "cancel-key",
     "code-first", "minor-version", "request-length", "startup-pairs", "same-name", "text",
 ];
-
-/// The Rust reads a count of oids, and each count of Bind, as an unsigned number. A DataRow's values it does not read.
-fn counts_are_unsigned(kind: &Kind) -> bool {
-    kind.has(&[Part::Oids]) || (kind.has(&[Part::Values]) && !kind.is_data_row())
-}
 
 /// One input, and what the Rust answers of it.
 #[derive(Clone, Copy)]
@@ -113,7 +108,7 @@ pub fn judge(case: &Case, ours: &Answer) -> Verdict {
         Answer::Refused(3, _) => too_short(case),
         Answer::Refused(4, _) => too_long(case),
         Answer::Refused(..) if case.kind().is_data_row() => when(unread(case), Under("data-row"), "a DataRow"),
-        Answer::Refused(5, place) => count(case, *place),
+        Answer::Refused(5, _) => count(case),
         Answer::Refused(6, place) => cut(case, *place),
         Answer::Refused(7, _) => not_allowed(case),
         Answer::Refused(8, place) => left_over(case, *place),
@@ -214,21 +209,22 @@ fn too_long(case: &Case) -> Verdict {
 /// A DataRow as the Rust keeps it: the frame's count and all bytes after it.
 fn unread(case: &Case) -> bool {
     let count = i16::from_be_bytes([case.buf[5], case.buf[6]]);
-    let fields = vec![Field::Unread(count, case.buf[7..case.end()].to_vec())];
+    let fields = vec![Field::Unread(count.into(), case.buf[7..case.end()].to_vec())];
     *case.seen == Seen::Record(Content { kind: case.kind().number, fields }) && case.consumed == case.end()
 }
 
-fn count(case: &Case, place: usize) -> Verdict {
-    if case.buf[place] >= 128 && counts_are_unsigned(case.kind()) {
-        return when(case.wild(), Under("signed-count"), "a negative count");
-    }
-    if case.refused("InvalidElementCount") {
+/// Before it reads a list, the Rust tests whether the buffer has the elements' bytes: not of oids, and of Bind's lists the last alone.
+fn count(case: &Case) -> Verdict {
+    let body = case.kind().body;
+    let (field, _) = model::fault(case.mode, case.buf);
+    let tested = body[field] != Part::Oids && field + 1 == body.len();
+    if tested && case.refused("InvalidElementCount") {
         return BothRefuse;
     }
-    if case.followed() {
-        return when(case.wild(), Under("past-the-frame"), "a count past the frame");
+    match case.followed() {
+        true => when(case.wild(), Under("past-the-frame"), "a count past the frame"),
+        false => when(case.panicked() && !tested, Under("count"), "a count"),
     }
-    when(case.panicked(), Under("count"), "a count")
 }
 
 fn cut(case: &Case, place: usize) -> Verdict {
@@ -247,7 +243,7 @@ fn cut(case: &Case, place: usize) -> Verdict {
             false => when(took_pairs_up_to(case, place), Under("startup-pairs"), "a start-up's pairs with no end"),
         };
     }
-    match model::fault(case.mode, case.buf) {
+    match model::fault(case.mode, case.buf).1 {
         "string" if case.buf[place..].contains(&0) => when(case.wild(), Under("past-the-frame"), "a string past the frame"),
         "string" => when(case.wild(), Under("missing-zero"), "a string with no zero byte"),
         _ if case.followed() => when(case.wild(), Under("past-the-frame"), "a number or value past the frame"),
@@ -308,27 +304,34 @@ pub fn judge_encoded(c: &Content, model: &Result<Vec<u8>, u8>, seen: &Result<Vec
         },
         Err(10) => {
             let wrote = seen.is_ok() || matches!(seen, Err(e) if refused(e, "MessageTooLarge"));
-            when(wrote, Under(unwritable(c)), "a message that cannot be written")
+            match unwritable(c) {
+                Some("encode-count") if taken_back(c, seen) => Unexplained("a list that the Rust writes and reads"),
+                Some(entry) => when(wrote, Under(entry), "a message that cannot be written"),
+                None => Unexplained("a message that can be written"),
+            }
         }
         Err(_) => Unexplained("an encoder's refusal of no known number"),
     }
 }
 
+/// Whether the Rust reads what it wrote as the same content.
+fn taken_back(c: &Content, seen: &Result<Vec<u8>, Seen>) -> bool {
+    seen.as_ref().is_ok_and(|f| oracle::decode(numbered(c.kind).mode, f).0 == Seen::Record(c.kept()))
+}
+
 /// Why a content cannot be written: the cases of refusal 10 (docs/FORMAT.md 9) that a content can have.
-fn unwritable(c: &Content) -> &'static str {
-    for f in &c.fields {
-        match f {
-            Field::Text(t) if t.contains(&0) => return "encode-zero-in-text",
-            Field::RowFields(fields) if fields.iter().any(|f| f.name.contains(&0)) => return "encode-zero-in-text",
-            Field::Errors(es) if es.iter().any(|(_, t)| t.contains(&0)) => return "encode-zero-in-text",
-            Field::Errors(es) if es.iter().any(|(code, _)| *code == 0) => return "encode-zero-code",
-            Field::Pairs(ps) if ps.iter().any(|(name, value)| name.contains(&0) || value.contains(&0)) => return "encode-zero-in-text",
-            Field::Pairs(_) => return "encode-empty-name",
-            _ => {}
-        }
-    }
-    match numbered(c.kind).has(&[Part::Target]) {
-        true => "encode-target",
-        false => "encode-count",
-    }
+fn unwritable(c: &Content) -> Option<&'static str> {
+    let kind = numbered(c.kind);
+    let of = |f: &Field| match f {
+        Field::Text(t) if t.contains(&0) => Some("encode-zero-in-text"),
+        Field::RowFields(fields) if fields.iter().any(|f| f.name.contains(&0)) => Some("encode-zero-in-text"),
+        Field::Errors(es) if es.iter().any(|(_, t)| t.contains(&0)) => Some("encode-zero-in-text"),
+        Field::Errors(es) if es.iter().any(|(code, _)| *code == 0) => Some("encode-zero-code"),
+        Field::Pairs(ps) if ps.iter().any(|(name, value)| name.contains(&0) || value.contains(&0)) => Some("encode-zero-in-text"),
+        Field::Pairs(_) => Some("encode-empty-name"),
+        list if list.counted() > kind.counts.most() => Some("encode-count"),
+        _ => None,
+    };
+    let target = kind.has(&[Part::Target]).then_some("encode-target");
+    c.fields.iter().find_map(of).or(target)
 }

@@ -66,7 +66,8 @@ impl Run {
     fn fail(&mut self, what: &str, mode: u8, buf: &[u8], detail: String) {
         self.failures += 1;
         if self.failures <= 20 {
-            println!("FAILED: {what} ({}): mode {mode}: {}\n  {detail}", self.source, hex(buf));
+            // of a long list the beginning is enough
+            println!("FAILED: {what} ({}): mode {mode}: {}\n  {detail:.4000}", self.source, hex(buf));
         }
     }
 

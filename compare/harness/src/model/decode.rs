@@ -75,10 +75,11 @@ fn decoded(mode: u8, buf: &[u8], limited: bool) -> Answer {
     }
 }
 
-/// What the first fault of a frame's body is in: a "string", or a "number" (a value's length and a value's bytes too).
-pub fn fault(mode: u8, buf: &[u8]) -> &'static str {
-    let Ok((kind, end)) = header(mode, buf, false) else { return "" };
+/// What the first fault of a frame's body is in: the number of the body's part, and of it a "string", or a "number" (a value's length and a
+/// value's bytes too).
+pub fn fault(mode: u8, buf: &[u8]) -> (usize, &'static str) {
+    let Ok((kind, end)) = header(mode, buf, false) else { return (0, "") };
     let mut frame = Frame::new(&buf[..end], kind.framing().body_at());
     let _ = frame.body(kind);
-    frame.what
+    (frame.field, frame.what)
 }

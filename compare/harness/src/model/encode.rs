@@ -1,6 +1,6 @@
 //! What an encoder is given, and what it writes: FORMAT 9.
 
-use super::kinds::{numbered, Framing, Kind, Part, MOST_ELEMENTS, REFUSES, STATUSES, TARGETS};
+use super::kinds::{numbered, Count, Framing, Kind, Part, REFUSES, STATUSES, TARGETS};
 use crate::content::{Content, Field, RowField};
 use Part::*;
 
@@ -59,7 +59,7 @@ pub fn encode(g: &Given, room: usize) -> Result<Vec<u8>, u8> {
 
 /// The body, where it can be written.
 fn body(g: &Given, kind: &Kind) -> Option<Vec<u8>> {
-    let mut out = Body::default();
+    let mut out = Body { bytes: vec![], counts: kind.counts };
     let mut texts = g.texts.iter();
     let mut numbers = g.numbers.iter();
     let mut formats = [&g.formats, &g.results].into_iter();
@@ -86,20 +86,22 @@ fn body(g: &Given, kind: &Kind) -> Option<Vec<u8>> {
             Pairs => out.pairs(&g.sizes, &g.joined)?,
         }
     }
-    Some(out.0)
+    Some(out.bytes)
 }
 
 /// The bytes of a body so far. What cannot be written is None.
-#[derive(Default)]
-struct Body(Vec<u8>);
+struct Body {
+    bytes: Vec<u8>,
+    counts: Count,
+}
 
 impl Body {
     fn put(&mut self, bytes: &[u8]) {
-        self.0.extend_from_slice(bytes);
+        self.bytes.extend_from_slice(bytes);
     }
 
     fn count(&mut self, n: usize) -> Option<()> {
-        if n > MOST_ELEMENTS {
+        if n > self.counts.most() {
             return None;
         }
         self.put(&(n as u16).to_be_bytes());

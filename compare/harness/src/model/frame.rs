@@ -1,6 +1,6 @@
 //! The fields of a body, read from left to right: FORMAT 1, 5 and 7.
 
-use super::kinds::{Kind, Part, STATUSES, TARGETS};
+use super::kinds::{Count, Kind, Part, STATUSES, TARGETS};
 use Part::*;
 
 /// What a record holds of a part: a number, a first byte and a length, or a first element and a count.
@@ -28,16 +28,17 @@ pub enum Element {
 /// A fault: the refusal's number and place.
 pub type Read<T> = Result<T, (u8, usize)>;
 
-/// A frame, how far it is read, and what is being read, for whoever asks what was cut.
+/// A frame, how far it is read, and what is being read, for whoever asks what was cut: which part of the body, and what of it.
 pub struct Frame<'a> {
     bytes: &'a [u8],
     pub at: usize,
+    pub field: usize,
     pub what: &'static str,
 }
 
 impl<'a> Frame<'a> {
     pub fn new(bytes: &'a [u8], at: usize) -> Frame<'a> {
-        Frame { bytes, at, what: "" }
+        Frame { bytes, at, field: 0, what: "" }
     }
 
     fn left(&self) -> usize {
@@ -131,18 +132,20 @@ impl<'a> Frame<'a> {
         })
     }
 
-    /// A count, and that many elements of at least `smallest` bytes.
-    fn list(&mut self, part: Part, smallest: usize) -> Read<Slot> {
+    /// A count, and that many elements.
+    fn list(&mut self, part: Part, counts: Count) -> Read<Slot> {
         let from = self.at;
-        let n = self.number(2)?;
-        if n < 0 || n as usize * smallest > self.left() {
+        // without its sign a negative count is more than a signed one can say
+        let n = self.number(2)? as u16 as usize;
+        let smallest = part.smallest_element().expect("a list with a count");
+        if n > counts.most() || n * smallest > self.left() {
             return Err((5, from));
         }
         let start = self.at;
         for _ in 0..n {
             self.element(part)?;
         }
-        Ok(Slot::List(start, n as usize))
+        Ok(Slot::List(start, n))
     }
 
     /// An error's fields or a start-up's pairs, which end with a zero byte in place of a code or a name.
@@ -162,17 +165,14 @@ impl<'a> Frame<'a> {
         }
     }
 
-    fn part(&mut self, part: Part) -> Read<Slot> {
+    fn part(&mut self, part: Part, counts: Count) -> Read<Slot> {
         match part {
             Str => self.string().map(|(start, len)| Slot::Span(start, len)),
             I8 => Ok(Slot::Num(self.number(1)?)),
             I32 => Ok(Slot::Num(self.number(4)?)),
             Target => self.one_of(TARGETS),
             Status => self.one_of(STATUSES),
-            Oids => self.list(part, 4),
-            Formats => self.list(part, 2),
-            Values => self.list(part, 4),
-            RowFields => self.list(part, 19),
+            Oids | Formats | Values | RowFields => self.list(part, counts),
             Errors | Pairs => self.ended(part),
             Rest => {
                 let rest = Slot::Span(self.at, self.left());
@@ -184,8 +184,9 @@ impl<'a> Frame<'a> {
 
     pub fn body(&mut self, kind: &Kind) -> Read<Vec<Slot>> {
         let mut slots = Vec::new();
-        for p in kind.body {
-            slots.push(self.part(*p)?);
+        for (i, p) in kind.body.iter().enumerate() {
+            self.field = i;
+            slots.push(self.part(*p, kind.counts)?);
         }
         if self.left() > 0 {
             return Err((8, self.at));

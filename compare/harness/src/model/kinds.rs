@@ -18,13 +18,39 @@ pub enum Part {
 }
 use Part::*;
 
+impl Part {
+    /// The bytes that an element has at least, of a list with a count.
+    pub fn smallest_element(self) -> Option<usize> {
+        match self {
+            Formats => Some(2),
+            Oids | Values => Some(4),
+            RowFields => Some(19),
+            _ => None,
+        }
+    }
+}
+
 /// The bytes that a target and a status can be, and the answer byte that refuses.
 pub const TARGETS: &[u8] = b"SP";
 pub const STATUSES: &[u8] = b"ITE";
 pub const REFUSES: u8 = b'N';
 
-/// As many elements as a count can say.
-pub const MOST_ELEMENTS: usize = 32_767;
+/// How the two bytes of a list's count are read.
+#[derive(Clone, Copy, PartialEq, Eq, Debug)]
+pub enum Count {
+    Signed,
+    Unsigned,
+}
+
+impl Count {
+    /// As many elements as it can say.
+    pub fn most(self) -> usize {
+        match self {
+            Count::Signed => 32_767,
+            Count::Unsigned => 65_535,
+        }
+    }
+}
 
 /// The two limits of a length.
 const L: i64 = 1_048_576;
@@ -94,9 +120,16 @@ pub struct Kind {
     pub smallest: i64,
     pub limit: i64,
     pub body: &'static [Part],
+    /// How the counts of its lists are read.
+    pub counts: Count,
 }
 
 impl Kind {
+    /// The same with unsigned counts.
+    const fn unsigned_counts(self) -> Kind {
+        Kind { counts: Count::Unsigned, ..self }
+    }
+
     /// Whether its body has one of these parts.
     pub fn has(&self, parts: &[Part]) -> bool {
         self.body.iter().any(|part| parts.contains(part))
@@ -133,13 +166,13 @@ const fn kind(number: u8, name: &'static str, mode: u8, byte: u8, smallest: i64,
 }
 
 const fn coded(number: u8, name: &'static str, mode: u8, tag: u32, smallest: i64, limit: i64, body: &'static [Part]) -> Kind {
-    Kind { number, name, mode, tag, smallest, limit, body }
+    Kind { number, name, mode, tag, smallest, limit, body, counts: Count::Signed }
 }
 
-/// A line for each kind of each mode. The numbers are those at the library's boundary.
+/// A line for each kind of each mode. The numbers are those at the library's boundary. Counts are signed where a line does not say otherwise.
 pub static KINDS: [Kind; 42] = [
-    kind(1, "Parse", 0, b'P', 8, L, &[Str, Str, Oids]),
-    kind(2, "Bind", 0, b'B', 12, L, &[Str, Str, Formats, Values, Formats]),
+    kind(1, "Parse", 0, b'P', 8, L, &[Str, Str, Oids]).unsigned_counts(),
+    kind(2, "Bind", 0, b'B', 12, L, &[Str, Str, Formats, Values, Formats]).unsigned_counts(),
     kind(3, "Close", 0, b'C', 6, S, &[Target, Str]),
     kind(4, "Describe", 0, b'D', 6, S, &[Target, Str]),
     kind(5, "Execute", 0, b'E', 9, S, &[Str, I32]),
@@ -156,7 +189,7 @@ pub static KINDS: [Kind; 42] = [
     kind(16, "EmptyQueryResponse", 1, b'I', 4, S, &[]),
     kind(8, "CopyDone", 1, b'c', 4, S, &[]),
     kind(17, "RowDescription", 1, b'T', 6, L, &[RowFields]),
-    kind(18, "ParameterDescription", 1, b't', 6, L, &[Oids]),
+    kind(18, "ParameterDescription", 1, b't', 6, L, &[Oids]).unsigned_counts(),
     kind(19, "DataRow", 1, b'D', 6, L, &[Values]),
     kind(20, "CommandComplete", 1, b'C', 5, S, &[Str]),
     kind(21, "ReadyForQuery", 1, b'Z', 5, S, &[Status]),

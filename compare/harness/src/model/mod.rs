@@ -11,5 +11,5 @@ pub mod numbers;
 pub use decode::{decode, decode_unlimited, fault, Answer};
 pub use elements::{content, element, item, lists};
 pub use encode::{encode, given, Given, RowFieldGiven};
-pub use frame::Element;
-pub use kinds::{framing, kind_of, named, numbered, Framing, Kind, Part, KINDS, MOST_ELEMENTS, REFUSES, STATUSES, TARGETS};
+pub use frame::{Element, Slot};
+pub use kinds::{framing, kind_of, named, numbered, Count, Framing, Kind, Part, KINDS, REFUSES, STATUSES, TARGETS};

@@ -93,7 +93,7 @@ rows! { BACK, read_back, made_back, Back:
     17 data::RowDescription LONG_BACKEND, m => [row_fields(&m)], [fields] => data::RowDescription::new(row_descriptions(fields)?);
     18 data::ParameterDescription LONG_BACKEND, m => [Field::Oids(m.types)], [types] => data::ParameterDescription::new(oids(types));
     // the Rust's form: the joined bytes, and the count beside them
-    19 data::DataRow LONG_BACKEND, m => [Field::Unread(m.field_count, m.data.to_vec())],
+    19 data::DataRow LONG_BACKEND, m => [Field::Unread(m.field_count.into(), m.data.to_vec())],
         [values] => data::DataRow::new(joined_values(values), width(values));
     20 response::CommandComplete SMALL_BACKEND, m => [text(&m.tag)], [tag] => response::CommandComplete::new(utf8(tag)?);
     21 response::ReadyForQuery SMALL_BACKEND, m => [num(m.status as u8)],

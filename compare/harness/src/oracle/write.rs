@@ -50,10 +50,7 @@ pub fn joined_values(f: &Field) -> BytesMut {
 
 /// How many elements a list of formats or values has, as the Rust says it beside the list.
 pub fn width(f: &Field) -> i16 {
-    match f {
-        Field::Formats(v) => v.len() as i16,
-        f => values(f).len() as i16,
-    }
+    f.counted() as i16
 }
 
 pub fn rest(f: &Field) -> Bytes {
