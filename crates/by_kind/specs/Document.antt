@@ -9,7 +9,6 @@ use mathlib.Core.Option.{Option, some, none}
 use mathlib.Core.Path.{_≡_}
 use lib.IntN.{ℤ, pos}
 use Rattle.protocol.specs.declared.Count.the-variants as C
-use Rattle.protocol.specs.declared.Count.{Count}
 use Rattle.protocol.specs.declared.Element.the-variants as E
 use Rattle.protocol.specs.declared.Element.{Element}
 use Rattle.protocol.specs.declared.List.{List as ListSlot}
@@ -20,7 +19,7 @@ use Rattle.protocol.specs.declared.response.GssEncResponse.the-variants as Gss
 use Rattle.protocol.specs.declared.response.SslResponse.the-variants as Ssl
 use Rattle.protocol.specs.Each.{Each}
 use Rattle.protocol.specs.Fields as F
-use Rattle.protocol.specs.Fields.{Atom, AtomSlot, Item, Field, Slot}
+use Rattle.protocol.specs.Fields.{Atom, AtomSlot, Item, Count, Field, Slot}
 use Rattle.protocol.specs.Kinds.{Envelope, typed, untyped, bare, Kind, Mode, tlsAnswer, gssAnswer, IsIn}
 
 infix 80 _∶_ _≔_

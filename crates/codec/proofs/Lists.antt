@@ -6,12 +6,11 @@ use native.Mathlib.Omega.{arith}
 use borrow.Author.Tests.{le-leb, lt-leb}
 use lib.IntN.{ℤ, pos, negsuc}
 use lib.ListN.{length}
-use Rattle.protocol.specs.declared.Count.{Count}
 use Rattle.protocol.specs.declared.List.{List as ListSlot}
 use Rattle.protocol.specs.declared.Rules.{Rules}
 use Rattle.protocol.specs.Bytes.{numberAt, signedOf}
 use Rattle.protocol.specs.Each.{leastOfEach}
-use Rattle.protocol.specs.Fields.{Item, itemLeast, countOf, most, counted}
+use Rattle.protocol.specs.Fields.{Item, itemLeast, Count, countOf, most, counted}
 use Rattle.protocol.specs.Kinds.{oid, format, oids, formats}
 use Rattle.protocol.specs.Reading.{Read, got, bad, andThen, read, readNumber, passItems, countAt, readCount, readCounted}
 use Rattle.protocol.specs.Refusals.{badCount, cut}

@@ -1,11 +1,12 @@
 // The cursor over one frame, as codec.rs reads a buffer: it goes in by value and comes back advanced, or the answer is a fault.
 // The frame ends where the lent slice ends, so nothing past it can be read.
 // Its functions are inner: for crates of this library alone (docs/INNER.md). The answers' types are a frame reader's too.
-ghost use Prim.Native.Nat.{_+_, _*_, _/_, _%_, _≤_, _<_};
+ghost use Prim.Native.Nat.{_+_, _*_, _/_, _%_, _^_, _≤_, _<_};
 ghost use mathlib.Core.Path.{_≡_};
+ghost use lib.Dec.{ltb};
 ghost use lib.ListN.{getD, length};
 ghost use Rattle.protocol.specs.Bytes.{numberAt, signedOf};
-ghost use Rattle.protocol.specs.Fields.{text};
+ghost use Rattle.protocol.specs.Fields.{most, text};
 ghost use Rattle.protocol.specs.Kinds.{formats, nullable, oids, values};
 ghost use Rattle.protocol.specs.Reading.{got, passItems, read, readAtom, readCount, readNumber, readRest, readValue};
 ghost use Rattle.codec.specs.CursorRead.{byteRead, halfRead, listedRead, passedRead, textRead, valueRead, wordRead};
@@ -16,11 +17,14 @@ use protocol::List;
 use protocol::Rules;
 use protocol::Span;
 use protocol::kinds::LONGEST;
-use protocol::most_of;
+use protocol::kinds::MOST_SIGNED;
 use protocol::refusal::BAD_COUNT;
 use protocol::refusal::CUT;
 use protocol::refusal::NOT_ALLOWED;
 use scan::zero_from;
+
+// The largest count that is not negative, as its two bytes are read.
+const MOST: u16 = MOST_SIGNED as u16;
 
 pub struct Cursor {
     pub at: usize,
@@ -89,6 +93,16 @@ pub fn signed32(x: u32) -> i32
         x as i32
     } else {
         -1 - ((4294967295 - x) as i32)
+    }
+}
+
+// Whether a count is negative, which one without a sign never is.
+fn negative(reading: Count, count: u16) -> bool
+    ensures { λ r. ⌜ (r ≡ ltb (most reading) count) × (count < 256 ^ 2) ⌝ }
+{
+    match reading {
+        Count::Signed => MOST < count,
+        Count::Unsigned => false,
     }
 }
 
@@ -248,11 +262,11 @@ impl Cursor {
         let Half::Is(count, c) = self.half(frame) else {
             return Listed::Refused(CUT, at);
         };
-        let start = c.at;
-        let count = count as usize;
-        if most_of(reading) < count {
+        if negative(reading, count) {
             return Listed::Refused(BAD_COUNT, at);
         }
+        let start = c.at;
+        let count = count as usize;
         if frame.len() - start < count * (least as usize) {
             return Listed::Refused(BAD_COUNT, at);
         }

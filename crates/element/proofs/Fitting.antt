@@ -7,12 +7,11 @@ use mathlib.Core.Path.{_≡_, refl, ap, _∙_}
 use native.Mathlib.Omega.{arith}
 use lib.Dec.{T}
 use lib.ListN.{length}
-use Rattle.protocol.specs.declared.Count.{Count}
 use Rattle.protocol.specs.declared.List.{List as ListSlot}
 use Rattle.protocol.specs.declared.Rules.{Rules}
 use Rattle.protocol.specs.Each.{Each, leastOfEach}
 use Rattle.protocol.specs.Elements.{Listed, listIn}
-use Rattle.protocol.specs.Fields.{Atom, unsigned, signed, oneOf, text, value, rest, Item, itemLeast, Field, one, counted, ended, Slot}
+use Rattle.protocol.specs.Fields.{Atom, unsigned, signed, oneOf, text, value, rest, Item, itemLeast, Count, Field, one, counted, ended, Slot}
 use Rattle.protocol.specs.Kinds.{Kind, Mode, modes, the-table}
 use Rattle.protocol.specs.Reading.{Read, got, bad, andThen, read, readEach, passItems, readCount, readCounted}
 use Rattle.protocol.proofs.Basics.{zero-one}

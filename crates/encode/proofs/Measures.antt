@@ -119,7 +119,7 @@ unfolding K.frontend K.bind G.bind ableEach bodyBytes bytesOfEach
 bind portal statement formats lengths joined results =
     measured-given K.bind (λ vs. (portal, (statement, (items formats, (vs, (items results, tt)))))) K.frontend (valuesGiven lengths joined) refl refl
     (λ vs is. rw (able-values _ _ lengths joined vs is) (simp (able-text, able-formats, and-true) refl))
-    (λ vs is. simp (length-append, length-text, length-formats) (omega (arith, length-values _ lengths joined vs is)))
+    (λ vs is. simp (length-append, length-text, length-formats) (omega (arith, length-values unsignedCount lengths joined vs is)))
 
 pub dataRow : (lengths : List ℤ) (joined : List ℕ)
     → Measured K.backend K.dataRow (G.dataRow lengths joined) K.large (isSome (valuesGiven lengths joined) && leb (length lengths) (most signedCount)) (length joined + 4 * length lengths + 2)
@@ -127,7 +127,7 @@ unfolding K.backend K.dataRow G.dataRow ableEach bodyBytes bytesOfEach
 dataRow lengths joined =
     measured-given K.dataRow (λ vs. (vs, tt)) K.backend (valuesGiven lengths joined) refl refl
     (λ vs is. rw (able-values _ _ lengths joined vs is) (and-true (leb (length lengths) (most signedCount))))
-    (λ vs is. simp length-append (omega (arith, length-values _ lengths joined vs is)))
+    (λ vs is. simp length-append (omega (arith, length-values signedCount lengths joined vs is)))
 
 -- codes are bytes
 pub reported : (tag : ℕ) (codes lengths joined : List ℕ) → ((i : ℕ) → getD codes i 0 < 256)

@@ -9,7 +9,6 @@ use borrow.Author.Tests.{ltb-true, ltb-false}
 use lib.Dec.{T, leb, ltb}
 use lib.ListN.{length, length-append}
 use lib.Seq.{take-append-seam}
-use Rattle.protocol.specs.declared.Count.{Count}
 use Rattle.protocol.specs.declared.Element.the-variants as E
 use Rattle.protocol.specs.declared.Element.{Element}
 use Rattle.protocol.specs.declared.Rules.{Rules}
@@ -17,7 +16,7 @@ use Rattle.protocol.specs.Answers.{ofElement}
 use Rattle.protocol.specs.Bytes.{be}
 use Rattle.protocol.specs.Each.{Each, bytesOfEach, slotsOfEach, ableEach, HoldsEach}
 use Rattle.protocol.specs.Elements.{listIn, readItemAt, elementBy, elementAt, elementIn, elementOf}
-use Rattle.protocol.specs.Fields.{Atom, AtomContent, atomBytes, atomSlot, Item, ItemContent, itemAble, itemBytes, itemSlots, itemsBytes, ItemsInRange, itemsAble, noneEnds, most, Field, one, counted, ended, Content, InRange, able, bytes, slot}
+use Rattle.protocol.specs.Fields.{Atom, AtomContent, atomBytes, atomSlot, Item, ItemContent, itemAble, itemBytes, itemSlots, itemsBytes, ItemsInRange, itemsAble, noneEnds, Count, most, Field, one, counted, ended, Content, InRange, able, bytes, slot}
 use Rattle.protocol.specs.Kinds.{Kind, Mode}
 use Rattle.protocol.specs.Reading.{passItems}
 use Rattle.protocol.specs.Refusals.{noSuchElement}

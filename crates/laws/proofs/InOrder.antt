@@ -14,6 +14,7 @@ use Rattle.protocol.specs.Fields.{Atom, unsigned, signed, oneOf, text, value, r
 use Rattle.protocol.specs.WellFormed.{bodyBytes, header, frame}
 use Rattle.protocol.proofs.Find.{every}
 use Rattle.protocol.proofs.Basics.{left-holds, right-holds}
+use Rattle.protocol.proofs.Counts.{count-back}
 use Rattle.laws.specs.Faults.{LastAtom, LastField}
 use Rattle.laws.specs.ReaderStatements.{theReader, Step, AtomInOrder, AtomsInOrder, ItemsInOrder, FieldInOrder, FieldsInOrder, InOrder}
 use Rattle.laws.proofs.Atoms.{saneAtom, number-back, byte-back, atom-back}
@@ -21,7 +22,6 @@ use Rattle.laws.proofs.Bodies.{saneField, stops, restLast, last-nothing
 use Rattle.laws.proofs.Complete.{header-long}
 use Rattle.laws.proofs.Fields.{atom-placed}
 use Rattle.laws.proofs.Items.{both, inItem, saneItem, in-item-sane, in-item-last}
-use Rattle.laws.proofs.Lists.{count-back}
 use Rattle.laws.proofs.Numbers.{length-be, bits-below}
 use Rattle.laws.proofs.SaneKinds.{row-sane}
 

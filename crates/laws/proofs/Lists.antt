@@ -5,26 +5,23 @@ use mathlib.Core.List.{List, [], _∷_, _++_, append-assoc}
 use mathlib.Core.Path.{_≡_, refl, ap, sym, _∙_}
 use native.Mathlib.Nat.{mul-le-mul-left}
 use native.Mathlib.Omega.{arith}
-use borrow.Author.Tests.{le-leb, leb-true, not-true, eqb-true}
+use borrow.Author.Tests.{le-leb, leb-true, leb-false, not-true, eqb-true}
 use lib.Dec.{T, leb, leb→le, eqb}
 use lib.IntN.{pos}
 use lib.ListN.{length, drop, length-append}
-use lib.Signed.{mag}
-use Rattle.protocol.specs.declared.Count.the-variants as C
-use Rattle.protocol.specs.declared.Count.{Count}
 use Rattle.protocol.specs.declared.List.{List as ListSlot}
 use Rattle.protocol.specs.declared.Rules.{Rules}
-use Rattle.protocol.specs.Bytes.{Bytes, be, signedOf, bitsOf}
+use Rattle.protocol.specs.Bytes.{Bytes, be}
 use Rattle.protocol.specs.Each.{Each}
-use Rattle.protocol.specs.Fields.{AtomSlot, Item, ItemContent, itemBytes, itemLeast, itemsBytes, ItemsInRange, itemsAble, zeroFirst, noneEnds, countOf, most, Field, counted, ended, Slot, InRange, able, bytes, slot}
+use Rattle.protocol.specs.Fields.{AtomSlot, Item, ItemContent, itemBytes, itemLeast, itemsBytes, ItemsInRange, itemsAble, zeroFirst, noneEnds, Count, countOf, most, Field, counted, ended, Slot, InRange, able, bytes, slot}
 use Rattle.protocol.specs.Reading.{Read, got, bad, andThen, readNumber, readItem, passItems, countAt, readCount, readCounted, endedFrom, readEnded, read}
-use Rattle.protocol.proofs.Basics.{zero-one, right-holds}
-use Rattle.protocol.proofs.Counts.{count-back, Counted, counted-is}
+use Rattle.protocol.proofs.Basics.{zero-one, negsuc-pos, right-holds}
+use Rattle.protocol.proofs.Counts.{count-back, count-above, Counted, counted-is}
 use Rattle.protocol.proofs.Find.{every}
 use Rattle.laws.proofs.Atoms.{byte-be, number-back, byte-back, number-was}
 use Rattle.laws.proofs.EachReads.{Was}
 use Rattle.laws.proofs.Items.{both, inItem, saneItem, item-bytes, item-back, pass-back, item-least, items-least, ItemWas, ItemsWere, item-was, no-items, item-before, pass-was}
-use Rattle.laws.proofs.Numbers.{length-be, signed-in-range, bits-signed}
+use Rattle.laws.proofs.Numbers.{length-be}
 
 module _ (rules : Rules) (i : Item) (sane : T (saneItem i)) where
   pub counted-back : (k : Count) (cs : List (ItemContent i)) (pre post : List ℕ) → ItemsInRange i cs → leb (length cs) (most k) && itemsAble rules i cs ≡ true → readCounted rules k i (pre ++ ((be 2 (length cs) ++ itemsBytes i cs) ++ post)) (length pre) ≡ got (record { start = length pre + 2; count = length cs }) (length pre + length (be 2 (length cs) ++ itemsBytes i cs))
@@ -81,15 +78,16 @@ module _ (rules : Rules) (i : Item) (sane : T (saneItem i)) where
 -- ---- what was read is a list
 
 -- a count that was read can be written, and is its bytes
-pub count-was : (k : Count) (bits n : ℕ) → bits < 256 ^ 2 → countOf k bits ≡ pos n → (n ≡ bits) × (n ≤ most k)
-unfolding bitsOf
-count-was C.Signed bits n h e =
-    let small : mag (signedOf 2 bits) < 256 ^ 2 / 2 = signed-in-range 1 bits h in
-    let less : n < 256 ^ 2 / 2 = rw e at small in
-    (ap (bitsOf 2) (sym e) ∙ bits-signed 1 bits h, omega arith)
-count-was C.Unsigned bits n h e =
+was-by : (k : Count) (bits n : ℕ) → bits < 256 ^ 2 → countOf k bits ≡ pos n → (few : Bool) → leb bits (most k) ≡ few → (n ≡ bits) × (n ≤ most k)
+was-by k bits n h e true t =
+    let few = leb-true bits (most k) t in
+    let back : countOf k bits ≡ pos bits = count-back k bits few .1 in
     let same : bits ≡ n = cc in
-    (sym same, omega arith)
+    (sym same, omega (arith, few))
+was-by k bits n h e false t = absurd (negsuc-pos (sym (count-above k bits h (leb-false _ _ t) .1) ∙ e))
+
+pub count-was : (k : Count) (bits n : ℕ) → bits < 256 ^ 2 → countOf k bits ≡ pos n → (n ≡ bits) × (n ≤ most k)
+count-was k bits n h e = was-by k bits n h e (leb bits (most k)) refl
 
 abbrev pub FieldWas : Rules → (x : Field) → List ℕ → ℕ → Slot x → ℕ → Type 0
 FieldWas rules x f p v q = Was bytes slot (read rules) InRange (able rules) x f p v q

@@ -11,13 +11,12 @@ use lib.Dec.{T, leb, leb→le, eqb}
 use lib.IntN.{ℤ, pos, negsuc}
 use lib.ListN.{length, take, drop, length-append, length-drop, take-append-drop}
 use lib.Seq.{drop-drop, drop-append-seam, length-take-le}
-use Rattle.protocol.specs.declared.Count.{Count}
 use Rattle.protocol.specs.declared.List.{List as ListSlot}
 use Rattle.protocol.specs.declared.Rules.{Rules}
 use Rattle.protocol.specs.Bytes.{noZero, numberFrom, numberAt}
 use Rattle.protocol.specs.Decode.{closed}
 use Rattle.protocol.specs.Each.{Each}
-use Rattle.protocol.specs.Fields.{Atom, unsigned, signed, oneOf, text, value, rest, AtomSlot, atomSlot, atomBytes, Item, ItemContent, ItemsInRange, itemBytes, itemSlots, itemLeast, itemAble, itemsAble, itemsBytes, zeroFirst, noneEnds, countOf, Field, one, counted, ended, Slot, slot, bytes}
+use Rattle.protocol.specs.Fields.{Atom, unsigned, signed, oneOf, text, value, rest, AtomSlot, atomSlot, atomBytes, Item, ItemContent, ItemsInRange, itemBytes, itemSlots, itemLeast, itemAble, itemsAble, itemsBytes, zeroFirst, noneEnds, Count, countOf, Field, one, counted, ended, Slot, slot, bytes}
 use Rattle.protocol.specs.Reading.{Read, got, bad, andThen, readNumber, oneMore, zeroIn, textAt, readText, valueAt, readValue, readAtom, readEach, readItem, passItems, countAt, readCount, readCounted, endedFrom, readEnded, read}
 use Rattle.protocol.specs.Refusals.{badCount, cut, notAllowed, bytesLeft}
 use Rattle.protocol.proofs.Find.{every}

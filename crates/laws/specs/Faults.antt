@@ -7,10 +7,9 @@ use mathlib.Core.Logic.{_⊎_}
 use mathlib.Core.Path.{_≡_}
 use lib.IntN.{pos, negsuc}
 use lib.ListN.{length, drop}
-use Rattle.protocol.specs.declared.Count.{Count}
 use Rattle.protocol.specs.declared.Rules.{Rules}
 use Rattle.protocol.specs.Bytes.{noZero, isOneOf, numberAt, signedOf}
-use Rattle.protocol.specs.Fields.{Atom, unsigned, signed, oneOf, text, value, rest, AtomContent, AtomInRange, atomAble, atomBytes, Item, ItemContent, ItemsInRange, itemsAble, itemsBytes, noneEnds, itemLeast, countOf, Field, one, counted, ended, Content, InRange, able, bytes}
+use Rattle.protocol.specs.Fields.{Atom, unsigned, signed, oneOf, text, value, rest, AtomContent, AtomInRange, atomAble, atomBytes, Item, ItemContent, ItemsInRange, itemsAble, itemsBytes, noneEnds, itemLeast, Count, countOf, Field, one, counted, ended, Content, InRange, able, bytes}
 use Rattle.protocol.specs.Kinds.{Envelope, typed, untyped, bare, Kind, IsIn}
 use Rattle.protocol.specs.Refusals.{typeUnknown, lengthTooSmall, lengthAboveLimit, badCount, cut, notAllowed, bytesLeft}
 

@@ -8,11 +8,10 @@ use lib.Dec.{leb}
 use lib.IntN.{ℤ, pos, negsuc}
 use lib.ListN.{length}
 use Rattle.protocol.specs.declared.Count.the-variants as C
-use Rattle.protocol.specs.declared.Count.{Count}
 use Rattle.protocol.specs.declared.List.{List as ListSlot}
 use Rattle.protocol.specs.declared.Rules.{Rules}
 use Rattle.protocol.specs.Each.{Each}
-use Rattle.protocol.specs.Fields.{AtomSlot, Item, countOf, most}
+use Rattle.protocol.specs.Fields.{AtomSlot, Item, Count, countOf, most}
 use Rattle.protocol.specs.Reading.{Read, got, bad, andThen, readNumber, readItem, passItems, countAt, readCount}
 use Rattle.protocol.proofs.Basics.{bad-got, first-chosen}
 use Rattle.protocol.proofs.Numbers.{lower, upper, whole}

@@ -11,7 +11,7 @@ use lib.IntN.{ℤ, pos, negsuc}
 use lib.ListN.{length}
 use lib.Signed.{mag}
 use Rattle.protocol.specs.declared.Count.the-variants as C
-use Rattle.protocol.specs.declared.Count.{Count}
+use Rattle.protocol.specs.declared.Count.{Count as Reading}
 use Rattle.protocol.specs.declared.Element.{Element}
 use Rattle.protocol.specs.declared.List.{List as ListSlot}
 use Rattle.protocol.specs.declared.Rules.{Rules}
@@ -148,7 +148,10 @@ noneEnds i (c ∷ cs) = not (zeroFirst (itemBytes i c)) && noneEnds i cs
 
 -- ---- fields
 
--- how a count's two bytes are read
+-- how a count's two bytes are read: the code's word for it, as for an element
+abbrev pub Count : Type 0
+Count = Reading
+
 abbrev pub signedCount : Count
 signedCount = C.Signed
 

@@ -6,13 +6,12 @@ use mathlib.Core.Option.{Option, some, none}
 use lib.Dec.{leb, eqb}
 use lib.IntN.{ℤ, pos, negsuc}
 use lib.ListN.{length, drop}
-use Rattle.protocol.specs.declared.Count.{Count}
 use Rattle.protocol.specs.declared.List.{List as ListSlot}
 use Rattle.protocol.specs.declared.Rules.{Rules}
 use Rattle.protocol.specs.declared.Span.{Span}
 use Rattle.protocol.specs.Bytes.{numberAt, signedOf, isOneOf}
 use Rattle.protocol.specs.Each.{Each}
-use Rattle.protocol.specs.Fields.{Atom, unsigned, signed, oneOf, text, value, rest, AtomSlot, Item, itemLeast, countOf, Field, one, counted, ended, Slot}
+use Rattle.protocol.specs.Fields.{Atom, unsigned, signed, oneOf, text, value, rest, AtomSlot, Item, itemLeast, Count, countOf, Field, one, counted, ended, Slot}
 use Rattle.protocol.specs.Refusals.{badCount, cut, notAllowed}
 
 -- what is read and the next place, or a refusal's number and place

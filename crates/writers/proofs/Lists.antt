@@ -10,12 +10,11 @@ use lib.ListN.{length, getD, drop, length-append}
 use lib.Signed.{mag}
 use mir.Syntax.{w16}
 use mir.Val.{hbits, toZ, ofZ}
-use Rattle.protocol.specs.declared.Count.{Count}
 use Rattle.protocol.specs.declared.Rules.{Rules}
 use Rattle.protocol.specs.Bytes.{noZero, isOneOf, be, bitsOf}
 use Rattle.protocol.specs.Each.{bytesOfEach, ableEach}
 use Rattle.protocol.specs.Encode.{items}
-use Rattle.protocol.specs.Fields.{most, signed, oneOf, rest, one, able, bytes, atomBytes, atomAble, itemBytes, itemAble, itemsBytes, itemsAble}
+use Rattle.protocol.specs.Fields.{Count, most, signed, oneOf, rest, one, able, bytes, atomBytes, atomAble, itemBytes, itemAble, itemsBytes, itemsAble}
 use Rattle.protocol.specs.Kinds.{string, oid, format, oids, formats}
 use Rattle.protocol.proofs.Basics.{length-be, back}
 use Rattle.writers.proofs.Laws.{drop-more}

@@ -14,12 +14,11 @@ use lib.Signed.{ltZ, mag}
 use mir.Syntax.{w32}
 use mir.Val.{SFits, hbits, toZ, ofZ}
 use mir.ValLaws.{toZ-ofZ}
-use Rattle.protocol.specs.declared.Count.{Count}
 use Rattle.protocol.specs.declared.Rules.{Rules}
 use Rattle.protocol.specs.Bytes.{be, bitsOf}
 use Rattle.protocol.specs.Each.{ableEach, bytesOfEach}
 use Rattle.protocol.specs.Encode.{valuesGiven}
-use Rattle.protocol.specs.Fields.{ItemContent, most, able, bytes, atomAble, atomBytes, valueBytes, itemAble, itemBytes, itemsAble, itemsBytes}
+use Rattle.protocol.specs.Fields.{ItemContent, Count, most, able, bytes, atomAble, atomBytes, valueBytes, itemAble, itemBytes, itemsAble, itemsBytes}
 use Rattle.protocol.specs.Kinds.{nullable, values}
 use Rattle.protocol.proofs.Basics.{none-some, and-left, and-right, length-be, back}
 use Rattle.writers.specs.Given.{isSome, sizeOf}

@@ -4,6 +4,7 @@ use mathlib.Core.Path.{_≡_, ap, sym, _∙_}
 use native.Mathlib.Nat.{mul-le-mul}
 use native.Mathlib.Omega.{arith}
 use borrow.Author.Needs.{needs}
+use borrow.Author.Tests.{ltb-true, ltb-false}
 use lib.ListN.{length}
 use Rattle.codec.specs.CursorRead.{halfRead}
 use Rattle.protocol.specs.Reading.{got, readNumber}
@@ -31,25 +32,27 @@ returns c =
 
 returns-2 : tie.Need-returns-2
 unfolding start
-returns-2 c = count-negative _ _ _ _ _ (opened (c .before)) (c .if1 .taken)
+returns-2 c =
+    let n = c .before .negative .ensures in
+    count-negative _ _ _ _ _ _ (opened (c .before .before)) (n .1) (ltb-true _ _ (sym (n .0) ∙ c .if1 .taken))
 
 sub-if2 : tie.Need-sub-if2
 unfolding start
-sub-if2 c = fits (c .before)
+sub-if2 c = fits (c .before .before)
 
 mul-if2 : tie.Need-mul-if2
 mul-if2 c =
-    let s = c .before .before .before .before .before .before in
+    let s = c .before .before .before .before .before .before .before in
     let small : s .args .least ≤ 255 = omega (arith, s .fits) in
-    omega (arith, mul-le-mul (c .if1 .left) small)
+    omega (arith, mul-le-mul (c .before .negative .ensures .1) small)
 
 returns-3 : tie.Need-returns-3
 unfolding start
-returns-3 c = count-large _ _ _ _ _ (opened (c .before .before)) (c .before .if1 .left) (c .if2 .taken)
+returns-3 c = count-large _ _ _ _ _ _ (opened (c .before .before .before)) (ltb-false _ _ (sym (c .before .before .negative .ensures .0) ∙ c .before .if1 .left)) (c .if2 .taken)
 
 returns-4 : tie.Need-returns-4
 unfolding start
-returns-4 c = count-got _ _ _ _ _ (opened (c .before .before)) (c .before .if1 .left) (c .if2 .left)
+returns-4 c = count-got _ _ _ _ _ _ (opened (c .before .before .before)) (ltb-false _ _ (sym (c .before .before .negative .ensures .0) ∙ c .before .if1 .left)) (c .if2 .left)
 
 pub count-spec : {M : Type 1} → statement M
 count-spec =
@@ -59,6 +62,7 @@ count-spec =
     (λ c. search needs)
     (λ c. search needs)
     returns
+    (λ c κs. search needs)
     returns-2
     (λ c. search needs)
     sub-if2

@@ -31,13 +31,13 @@ returns c =
     let k = c .before .before in
     rw (← k .count .ensures, c .enum-told .given .1) refl
 
-mul-t10 : tie.Need-mul-t10
+mul-t11 : tie.Need-mul-t11
 unfolding start
-mul-t10 c = omega (arith, fits c)
+mul-t11 c = omega (arith, fits c)
 
-add-t11 : tie.Need-add-t11
+add-t12 : tie.Need-add-t12
 unfolding start
-add-t11 c = omega (arith, fits c)
+add-t12 c = omega (arith, fits c)
 
 returns-2 : tie.Need-returns-2
 unfolding start readFixed
@@ -46,4 +46,4 @@ returns-2 c = rw (opened c) refl
 pub fixed-spec : {M : Type 1} → statement M
 fixed-spec =
     tie.close
-    (tie.spec (λ c κs. search needs) (λ c. search needs) (λ c. search needs) returns mul-t10 add-t11 returns-2)
+    (tie.spec (λ c κs. search needs) (λ c. search needs) (λ c. search needs) returns mul-t11 add-t12 returns-2)

@@ -8,12 +8,11 @@ use borrow.Author.Needs.{needs}
 use denote.Enum.Declared.{tagOf}
 use lib.Dec.{T}
 use types.Run.{OneOf}
-use Rattle.protocol.specs.declared.Count.{Count}
 use Rattle.protocol.specs.declared.List.{List as ListSlot}
 use Rattle.protocol.specs.declared.Message.{Message}
 use Rattle.protocol.specs.Each.{Each}
 use Rattle.protocol.specs.Elements.{Listed, listIn, listOf}
-use Rattle.protocol.specs.Fields.{Item, Field, one, counted, ended, Slot}
+use Rattle.protocol.specs.Fields.{Item, signedCount, Field, one, counted, ended, Slot}
 use Rattle.protocol.specs.Kinds.{Kind, find, the-table}
 use Rattle.protocol.specs.Views.{view, numbered}
 use Rattle.protocol.proofs.Message as Msg
@@ -22,12 +21,12 @@ use Rattle.element.specs.OneList.{only}
 use Rattle.element.proofs.list.list_of.Statement.{statement}
 use Rattle.element.proofs.list.list_of.Tie as tie
 
--- ---- a body with one list, and with none
+-- ---- a body with one list, and with none. Which list it is does not depend on how its count is read: one reading stands for both
 
-counted-only : (k : Count) (i : Item) (x : ListSlot) (l : ℕ) → only i x l ≡ listIn (counted k i ∷ []) l (x, tt)
+counted-only : (i : Item) (x : ListSlot) (l : ℕ) → only i x l ≡ listIn (counted signedCount i ∷ []) l (x, tt)
 unfolding only listIn
-counted-only k i x zero = refl
-counted-only k i x (suc l) = refl
+counted-only i x zero = refl
+counted-only i x (suc l) = refl
 
 ended-only : (i : Item) (x : ListSlot) (l : ℕ) → only i x l ≡ listIn (ended i ∷ []) l (x, tt)
 unfolding only listIn
@@ -90,15 +89,15 @@ list-of-spec =
     (λ c κs. search needs)
     (λ c. search needs)
     (λ c κs. search needs)
-    (λ c. arm _ (c .before .before .message .given .1) (c .only .ensures) (counted-only _ _ _ _))
+    (λ c. arm _ (c .before .before .message .given .1) (c .only .ensures) (counted-only _ _ _))
     (λ c. arm _ (c .before .before .message2 .given .1) (c .bind-list .ensures) refl)
-    (λ c. arm _ (c .before .before .message3 .given .1) (c .only2 .ensures) (counted-only _ _ _ _))
-    (λ c. arm _ (c .before .before .message4 .given .1) (c .only3 .ensures) (counted-only _ _ _ _))
-    (λ c. arm _ (c .before .before .message5 .given .1) (c .only4 .ensures) (counted-only _ _ _ _))
+    (λ c. arm _ (c .before .before .message3 .given .1) (c .only2 .ensures) (counted-only _ _ _))
+    (λ c. arm _ (c .before .before .message4 .given .1) (c .only3 .ensures) (counted-only _ _ _))
+    (λ c. arm _ (c .before .before .message5 .given .1) (c .only4 .ensures) (counted-only _ _ _))
     (λ c. arm _ (c .before .before .message6 .given .1) (c .only5 .ensures) (ended-only _ _ _))
     (λ c. arm _ (c .before .before .message7 .given .1) (c .only6 .ensures) (ended-only _ _ _))
-    (λ c. arm _ (c .before .before .message8 .given .1) (c .only7 .ensures) (counted-only _ _ _ _))
-    (λ c. arm _ (c .before .before .message9 .given .1) (c .only8 .ensures) (counted-only _ _ _ _))
-    (λ c. arm _ (c .before .before .message10 .given .1) (c .only9 .ensures) (counted-only _ _ _ _))
+    (λ c. arm _ (c .before .before .message8 .given .1) (c .only7 .ensures) (counted-only _ _ _))
+    (λ c. arm _ (c .before .before .message9 .given .1) (c .only8 .ensures) (counted-only _ _ _))
+    (λ c. arm _ (c .before .before .message10 .given .1) (c .only9 .ensures) (counted-only _ _ _))
     (λ c. arm _ (c .before .before .message11 .given .1) (c .only10 .ensures) (ended-only _ _ _))
     returns-12)
