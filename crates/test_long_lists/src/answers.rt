@@ -60,13 +60,14 @@ pub fn write_decoded(mode: u8, buf: &[u8]) {
     write(b"\n");
 }
 
+// A format that is not negative is written by its bits.
 pub fn write_element(mode: u8, buf: &[u8], list: usize, number: usize) {
     write(b"element ");
     write_number(number);
     write(b": ");
     match element::element(mode, buf, list, number) {
         Element::Oid(oid) => write_number(oid as usize),
-        Element::Format(format) => test_cases::write_signed(format as i32),
+        Element::Format(format) => write_number(writers::bits16(format) as usize),
         Element::Null => write(b"NULL"),
         Element::Value(value) => test_cases::write_span(value),
         Element::Refused(number, place) => write_refused(number, place),

@@ -7,6 +7,7 @@ use codec::Half;
 use codec::Text;
 use codec::Value;
 use encode::extendedquery;
+use protocol::Encoded;
 use protocol::Span;
 use test_cases::write;
 use test_cases::write_number;
@@ -161,13 +162,17 @@ fn write_elements(frame: &[u8; ROOM]) {
     answers::write_element(0, frame, 1, 40000);
 }
 
+fn encode_in(lengths: &[i32; COUNT], joined: &[u8; JOINED], out: &mut [u8]) -> Encoded {
+    extendedquery::bind(b"", b"", &[], lengths, joined, &[], out)
+}
+
 pub fn answer() {
     let mut lengths = [0i32; COUNT];
     let mut joined = [0u8; JOINED];
     let mut out = [given::SPARE; ROOM];
     fill(&mut lengths, &mut joined);
     write(b"Bind of 40000 values: ");
-    answers::write_encoded(extendedquery::bind(b"", b"", &[], &lengths, &joined, &[], &mut out));
+    answers::write_encoded(encode_in(&lengths, &joined, &mut out));
     write(b"\nfirst");
     test_cases::write_hex(decode::part(&out, 0, 30));
     write(b"\n");
