@@ -1,13 +1,15 @@
 // A case, read letter by letter: a kind's name, sizes, and sections, each a letter and its numbers. What has another form is malformed.
 
 use protocol::kinds::LARGE_FRAME;
-use protocol::kinds::MOST_SIGNED;
+use protocol::kinds::MOST_UNSIGNED;
 
 // The longest output, and the most bytes that are given: more than the largest frame.
 pub const ROOM: usize = LARGE_FRAME + 3;
 
-// The most numbers that are given: one more than a list can have.
-pub const MANY: usize = MOST_SIGNED + 1;
+// The most numbers that are given: one more than any list can have.
+pub const MANY: usize = MOST_UNSIGNED + 1;
+
+pub const BIND: usize = 2;
 
 pub const ROW_DESCRIPTION: usize = 17;
 
@@ -26,11 +28,11 @@ const TWO: usize = 4;
 
 const JOINED: usize = 5;
 
-const NUMBERS: usize = 6;
+pub const NUMBERS: usize = 6;
 
-const FORMATS: usize = 7;
+pub const FORMATS: usize = 7;
 
-const RESULTS: usize = 8;
+pub const RESULTS: usize = 8;
 
 pub const COMMENT: usize = 9;
 
@@ -114,10 +116,17 @@ pub fn has_lengths(case: Case) -> bool {
     (case.kind == STARTUP) & (case.section == NUMBERS) & (case.joined_len == 0)
 }
 
-// Whether the line gives a byte and how often, and nothing else but the section BYTE, or a start-up's lengths.
+// Whether the line ends in the letter of one of a Bind's lists, with nothing behind it: that list alone is given.
+pub fn names_list(case: Case) -> bool {
+    let no_bytes = (case.one_len == 0) & (case.two_len == 0) & (case.joined_len == 0);
+    let no_numbers = (case.number_count == 0) & (case.format_count == 0) & (case.result_count == 0);
+    (case.kind == BIND) & (NUMBERS <= case.section) & no_bytes & no_numbers
+}
+
+// Whether the line gives a byte and how often, and nothing else but the section BYTE, a start-up's lengths, or the letter of a Bind's list.
 fn is_repeated(case: Case) -> bool {
     let most = (case.len <= MANY) | (!has_list(case.kind) & (case.len <= ROOM));
-    let alone = (case.section <= BYTE) | has_lengths(case);
+    let alone = (case.section <= BYTE) | has_lengths(case) | names_list(case);
     (case.size_count == 4) & (case.start < 256) & most & alone
 }
 
