@@ -3,6 +3,7 @@
 ghost use Prim.Native.Nat.{_≤_, min};
 ghost use lib.ListN.{length};
 use libc::STDOUT_FILENO;
+use protocol::Encoded;
 use protocol::List;
 use protocol::Span;
 
@@ -61,6 +62,16 @@ pub fn write_refused(number: u8, place: usize) {
     write_number(number as usize);
     write(b" at ");
     write_number(place);
+}
+
+pub fn write_encoded(encoded: Encoded) {
+    match encoded {
+        Encoded::Done(size) => {
+            write(b"done ");
+            write_number(size);
+        }
+        Encoded::Refused(number, place) => write_refused(number, place),
+    }
 }
 
 // ---- read

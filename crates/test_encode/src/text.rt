@@ -2,10 +2,10 @@
 use libc::STDOUT_FILENO;
 use protocol::Encoded;
 use test_cases::write;
+use test_cases::write_encoded;
 use test_cases::write_hex;
 use test_cases::write_letter;
 use test_cases::write_number;
-use test_cases::write_refused;
 
 // The longest output that is written byte by byte.
 const SHORT: usize = 64;
@@ -28,21 +28,9 @@ fn write_sums(bytes: &[u8]) {
     io::print_decimal(STDOUT_FILENO, sums);
 }
 
-fn write_encoded(encoded: Encoded) {
-    match encoded {
-        Encoded::Done(size) => {
-            write(b" = done ");
-            write_number(size);
-        }
-        Encoded::Refused(number, place) => {
-            write(b" = ");
-            write_refused(number, place);
-        }
-    }
-}
-
 // What stands behind a case: the answer, the room, and the output as it is after the call.
 pub fn write_answer(encoded: Encoded, out: &[u8]) {
+    write(b" = ");
     write_encoded(encoded);
     write(b" of ");
     write_number(out.len());

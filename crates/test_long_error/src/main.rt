@@ -7,22 +7,12 @@ use fields::COUNT;
 use fields::ROOM;
 use protocol::Decoded;
 use protocol::Element;
-use protocol::Encoded;
 use protocol::Message;
 use protocol::Span;
 use test_cases::write;
+use test_cases::write_encoded;
 use test_cases::write_number;
 use test_cases::write_refused;
-
-fn write_encoded(encoded: Encoded) {
-    match encoded {
-        Encoded::Done(size) => {
-            write(b"done ");
-            write_number(size);
-        }
-        Encoded::Refused(number, place) => write_refused(number, place),
-    }
-}
 
 // How many of the last bytes are as they were before the call.
 fn spare_at_end(out: &[u8]) -> usize {

@@ -1,23 +1,12 @@
 // What the library answers, in text. Of a message its lists are written, each as its start and its count.
 use protocol::Decoded;
 use protocol::Element;
-use protocol::Encoded;
 use protocol::List;
 use protocol::Message;
 use protocol::extendedquery::Bind;
 use test_cases::write;
 use test_cases::write_number;
 use test_cases::write_refused;
-
-pub fn write_encoded(encoded: Encoded) {
-    match encoded {
-        Encoded::Done(size) => {
-            write(b"done ");
-            write_number(size);
-        }
-        Encoded::Refused(number, place) => write_refused(number, place),
-    }
-}
 
 fn write_list(name: &[u8], list: List) {
     write(name);

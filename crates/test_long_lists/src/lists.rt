@@ -162,7 +162,7 @@ fn answer(
     write(b" of ");
     write_number(count);
     write(b": ");
-    answers::write_encoded(encoded);
+    test_cases::write_encoded(encoded);
     let Encoded::Done(size) = encoded else {
         write(b"\n");
         return;

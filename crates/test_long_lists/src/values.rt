@@ -172,7 +172,7 @@ pub fn answer() {
     let mut out = [given::SPARE; ROOM];
     fill(&mut lengths, &mut joined);
     write(b"Bind of 40000 values: ");
-    answers::write_encoded(encode_in(&lengths, &joined, &mut out));
+    test_cases::write_encoded(encode_in(&lengths, &joined, &mut out));
     write(b"\nfirst");
     test_cases::write_hex(decode::part(&out, 0, 30));
     write(b"\n");
