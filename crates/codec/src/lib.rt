@@ -254,7 +254,7 @@ impl Cursor {
         }
     }
 
-    // The count of a list, read as it says, whose elements have at least `least` bytes each. The list starts after it.
+    // The count of a list whose elements have at least `least` bytes each, read as the list's row says. The list starts after it.
     pub fn count(self, reading: Count, frame: &[u8], least: u8) -> Listed
         ensures { λ r. ⌜ listedRead r ≡ readCount reading least (now (frame .entry)) (self .at) ⌝ }
     {
