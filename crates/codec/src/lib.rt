@@ -96,7 +96,7 @@ pub fn signed32(x: u32) -> i32
     }
 }
 
-// Whether a count is negative, which one without a sign never is.
+// Whether a count is negative, which one without a sign never is. That it has two bytes is told too, for the proof of its caller.
 fn negative(reading: Count, count: u16) -> bool
     ensures { λ r. ⌜ (r ≡ ltb (most reading) count) × (count < 256 ^ 2) ⌝ }
 {

@@ -7,6 +7,7 @@ use borrow.Author.Needs.{needs}
 use borrow.Author.Tests.{ltb-true, ltb-false}
 use lib.ListN.{length}
 use Rattle.codec.specs.CursorRead.{halfRead}
+use Rattle.protocol.specs.Fields.{most}
 use Rattle.protocol.specs.Reading.{got, readNumber}
 use Rattle.protocol.proofs.Numbers.{Whole, whole}
 use Rattle.codec.proofs.Lists.{count-short, count-negative, count-large, count-got}
@@ -46,13 +47,18 @@ mul-if2 c =
     let small : s .args .least ≤ 255 = omega (arith, s .fits) in
     omega (arith, mul-le-mul (c .before .negative .ensures .1) small)
 
+-- the count is not negative
+few : (c : tie.Else1) → c .before .before .before .count .given .0 .0 ≤ most (start (c .before .before) .args .reading)
+unfolding start
+few c = ltb-false _ _ (sym (c .before .negative .ensures .0) ∙ c .if1 .left)
+
 returns-3 : tie.Need-returns-3
 unfolding start
-returns-3 c = count-large _ _ _ _ _ _ (opened (c .before .before .before)) (ltb-false _ _ (sym (c .before .before .negative .ensures .0) ∙ c .before .if1 .left)) (c .if2 .taken)
+returns-3 c = count-large _ _ _ _ _ _ (opened (c .before .before .before)) (few (c .before)) (c .if2 .taken)
 
 returns-4 : tie.Need-returns-4
 unfolding start
-returns-4 c = count-got _ _ _ _ _ _ (opened (c .before .before .before)) (ltb-false _ _ (sym (c .before .before .negative .ensures .0) ∙ c .before .if1 .left)) (c .if2 .left)
+returns-4 c = count-got _ _ _ _ _ _ (opened (c .before .before .before)) (few (c .before)) (c .if2 .left)
 
 pub count-spec : {M : Type 1} → statement M
 count-spec =
