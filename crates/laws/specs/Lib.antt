@@ -9,5 +9,6 @@ pub mod Arguments
 pub mod EncodeStatements
 pub mod ReaderStatements
 pub mod ListingStatements
+pub mod BuilderStatements
 pub mod Shortcuts
 pub mod Rejected
