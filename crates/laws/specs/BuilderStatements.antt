@@ -154,6 +154,16 @@ after builder h (c ∷ cs) = after builder (called builder h c) cs
 abbrev pub begun : Builder → List ℕ → Row → Held
 begun builder room row = record { row = row; room = builder .begin room .room; columns = [] }
 
+-- that a call is refused
+abbrev pub Refuses : Builder → Held → Call → Type 0
+Refuses builder h (append c) = Unsuccessful (ofBuilt (builder .append (h .row) c (h .room) .answer))
+Refuses builder h dropLast = Unsuccessful (ofBuilt (builder .dropLast (h .row) (h .room) .answer))
+Refuses builder h finish = Unsuccessful (ofEncoded (builder .finish (h .row) (h .room)))
+
+-- A refused call leaves row, room and columns.
+abbrev pub LeavesAll : Builder → Type 0
+LeavesAll builder = (h : Held) (c : Call) → Refuses builder h c → called builder h c ≡ h
+
 -- a value is bytes
 abbrev pub CallInRange : Call → Type 0
 CallInRange (append none) = Unit {0}
@@ -162,16 +172,33 @@ CallInRange dropLast = Unit {0}
 CallInRange finish = Unit {0}
 
 -- After begin and any calls, refused ones among them: the room begins with the well-formed frame of the expected columns, the row stores its size and
--- their count, and the frame, followed by any bytes, decodes to those columns, which the element calls give one by one.
-pub record Built (decode : Decoder) (call : ElementCall) (h : Held) : Type 0 where
+-- their count, finish gives the size, and the frame, followed by any bytes, decodes to those columns, which the element calls give one by one.
+pub record IsBuilt (builder : Builder) (decode : Decoder) (call : ElementCall) (h : Held) : Type 0 where
   pub stands : Stands (h .row) (h .room) (h .columns)
+  pub finishes : ofEncoded (builder .finish (h .row) (h .room)) ≡ success tt (h .row .size)
   pub decodes : (t : List ℕ) → Decodes decode call (rulesOf 1) backend dataRow (rowOf (h .columns)) (take (h .row .size) (h .room) ++ t) (h .row .size)
 
 abbrev pub Histories : Builder → Decoder → ElementCall → Type 0
 Histories builder decode call =
     (room : List ℕ) (row : Row) (calls : List Call) → All CallInRange calls → ofBuilt (builder .begin room .answer) ≡ success row 0
-    → Built decode call (after builder (begun builder room row) calls)
+    → IsBuilt builder decode call (after builder (begun builder room row) calls)
 
--- 5. Numbered. A refusal has one of these numbers.
+-- 5. Numbered. A refusal has one of the numbers 4, 9, 10 and 11, and gives no row.
 abbrev pub builderNumbers : List ℕ
 builderNumbers = 4 ∷ 9 ∷ 10 ∷ 11 ∷ []
+
+pub record BuilderNumbered (builder : Builder) (row : Row) (room : List ℕ) (c : Column) : Type 0 where
+  pub begin : IsNumbered builderNumbers (ofBuilt (builder .begin room .answer))
+  pub append : IsNumbered builderNumbers (ofBuilt (builder .append row c room .answer))
+  pub dropLast : IsNumbered builderNumbers (ofBuilt (builder .dropLast row room .answer))
+  pub finish : IsNumbered builderNumbers (ofEncoded (builder .finish row room))
+
+-- 6. These leave one builder: whatever meets 1, 2 and 3 gives the same answers and leaves the same room.
+abbrev pub OneBuilder : Builder → Encoder → Type 0
+OneBuilder builder encode =
+    (other : Builder) → BuildsAsEncoded other encode → BuilderExactly other → KeepsTheRoom other
+    → (row : Row) (room : List ℕ) (c : Column) → Bytes room
+    → (other .begin room ≡ builder .begin room)
+    × (other .append row c room ≡ builder .append row c room)
+    × (other .dropLast row room ≡ builder .dropLast row room)
+    × (ofEncoded (other .finish row room) ≡ ofEncoded (builder .finish row room))
