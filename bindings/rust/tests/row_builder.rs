@@ -176,8 +176,8 @@ fn a_longer_room() {
 /// Each byte of a small row, changed to each other byte: only those of its value can be.
 #[test]
 fn a_changed_room() {
-    for at in 0..ROW.len() {
-        for byte in (0..=255).filter(|byte| *byte != ROW[at]) {
+    for (at, old) in ROW.iter().enumerate() {
+        for byte in (0..=255).filter(|byte| byte != old) {
             let mut row = Kept::new(&[ROW, b"UUUUU"].concat(), 2, 17);
             row.room[at] = byte;
             if at == 11 || at == 12 {
