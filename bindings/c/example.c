@@ -1,4 +1,4 @@
-/* Decodes a row, reads its values, writes a message, and says what is wrong with a damaged one. */
+/* Decodes a row, reads its values, writes a message, says what is wrong with a damaged one, and builds a row column by column. */
 #include <stdio.h>
 #include <string.h>
 
@@ -42,5 +42,16 @@ int main(void) {
     frame[4]--;
     tusweram_decode(TUSWERAM_FRONTEND, frame, n - 1, out);
     printf("cut, it is refused with %zu at %zu\n", out[1], out[2]);
+
+    /* Build the first row again, column by column, with a third one that is dropped. */
+    tusweram_row built;
+    if (tusweram_row_begin(&built, frame, sizeof frame) != 0) return 1;
+    if (tusweram_row_append(&built, frame, sizeof frame, (const uint8_t *)"ab", 2) != 0) return 1;
+    if (tusweram_row_append_null(&built, frame, sizeof frame) != 0) return 1;
+    if (tusweram_row_append(&built, frame, sizeof frame, (const uint8_t *)"cd", 2) != 0) return 1;
+    if (tusweram_row_drop_last(&built, frame, sizeof frame) != 0) return 1;
+    if (tusweram_row_finish(&built, frame, sizeof frame) != 0) return 1;
+    if (built.size != frame_len || memcmp(frame, row, frame_len) != 0) return 1;
+    printf("built, a row of %zu columns, %zu bytes\n", built.columns, built.size);
     return 0;
 }

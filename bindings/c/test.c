@@ -1,5 +1,6 @@
 /* Each function of tusweram.h with known answers, worked out from docs/FORMAT.md; NULL with length 0; numbers, places and lengths that reach past
- * what is lent; the longest lists. Every buffer ends at the end of a page with nothing behind it, so a read or write past it stops the program. */
+ * what is lent; the longest lists and rows. Every buffer ends at the end of a page with nothing behind it, so a read or write past it stops the
+ * program. */
 #define _DEFAULT_SOURCE
 #include <stdarg.h>
 #include <stdio.h>
@@ -14,6 +15,8 @@ _Static_assert(sizeof(size_t) == 8, "the archives have numbers of 64 bits");
 _Static_assert(sizeof(struct tusweram_field_description) == 40, "the layout of a field");
 _Static_assert(offsetof(struct tusweram_field_description, type_id) == 24, "the layout of a field");
 _Static_assert(offsetof(struct tusweram_field_description, format_code) == 36, "the layout of a field");
+_Static_assert(sizeof(tusweram_row) == sizeof(size_t[2]), "a row is two numbers");
+_Static_assert(offsetof(tusweram_row, size) == sizeof(size_t), "a row is two numbers");
 
 static int checks, wrong;
 
@@ -34,8 +37,8 @@ static int checks, wrong;
 
 /* ---- buffers that end where the memory ends */
 
-/* The longest frame here, a Bind of 40,000 values, has some 80 pages. */
-enum { PAGES = 128 };
+/* The longest frame here, a row at its limit, has some 257 pages. */
+enum { PAGES = 288 };
 
 /* The end of fresh pages, before one that cannot be touched. */
 static uint8_t *edge(void) {
@@ -724,10 +727,264 @@ static void a_long_bind(void) {
     CHECK(REFUSED(11, 0));
 }
 
+/* ---- a row that is built: its room, and its two numbers, end where the memory ends */
+
+enum { LIMIT = 1048576, FULL = LIMIT + 1 };
+
+static tusweram_row *built;
+
+static void number(size_t columns, size_t size) { *built = (tusweram_row){columns, size}; }
+
+static uint8_t begin(uint8_t *room, size_t room_len) { return tusweram_row_begin(built, room, room_len); }
+
+static uint8_t append(uint8_t *room, size_t room_len, const uint8_t *bytes, size_t n) {
+    return tusweram_row_append(built, room, room_len, lent(bytes, n), n);
+}
+
+static uint8_t append_null(uint8_t *room, size_t room_len) { return tusweram_row_append_null(built, room, room_len); }
+
+static uint8_t drop_last(uint8_t *room, size_t room_len) { return tusweram_row_drop_last(built, room, room_len); }
+
+static uint8_t finish(uint8_t *room, size_t room_len) { return tusweram_row_finish(built, room, room_len); }
+
+/* The answer is 0, the numbers are these, and the room has these bytes, of which all are given. */
+#define BUILDS(call, columns_, size_, ...)                                                            \
+    do {                                                                                              \
+        static const uint8_t want[] = __VA_ARGS__;                                                    \
+        CHECK(sizeof want - 1 == room_len);                                                           \
+        CHECK(call == 0 && built->columns == (columns_) && built->size == (size_));                   \
+        CHECK(memcmp(room, want, room_len) == 0);                                                     \
+    } while (0)
+
+/* The answer is that number, and the numbers and the room are as they were. */
+#define KEEPS(number, call)                                                                           \
+    do {                                                                                              \
+        static uint8_t before[FULL + 8];                                                              \
+        tusweram_row was = *built;                                                                    \
+        if (room_len != 0) memcpy(before, room, room_len);                                            \
+        CHECK(call == (number) && built->columns == was.columns && built->size == was.size);          \
+        CHECK(room_len == 0 || memcmp(room, before, room_len) == 0);                                  \
+    } while (0)
+
+/* The room does not begin with the row: each call that looks is refused. */
+static void no_row(uint8_t *room, size_t room_len) {
+    KEEPS(10, append(room, room_len, BYTES("x")));
+    KEEPS(10, append(room, room_len, NONE));
+    KEEPS(10, append_null(room, room_len));
+    KEEPS(10, drop_last(room, room_len));
+    KEEPS(10, finish(room, room_len));
+}
+
+/* The room begins with the row. */
+static void a_row(uint8_t *room, size_t room_len) { KEEPS(0, finish(room, room_len)); }
+
+static void a_row_built(void) {
+    size_t room_len = 20;
+    uint8_t *room = fresh(room_len);
+    number(SIZE_MAX, SIZE_MAX);
+    BUILDS(begin(room, room_len), 0, 7, "D\0\0\0\x06\0\0UUUUUUUUUUUUU");
+    KEEPS(11, drop_last(room, room_len));
+    a_row(room, room_len);
+    BUILDS(append(room, room_len, BYTES("ab")), 1, 13, "D\0\0\0\x0c\0\x01\0\0\0\x02" "abUUUUUUU");
+    a_row(room, room_len);
+    BUILDS(append_null(room, room_len), 2, 17, "D\0\0\0\x10\0\x02\0\0\0\x02" "ab\xff\xff\xff\xffUUU");
+    a_row(room, room_len);
+    KEEPS(9, append_null(room, room_len));
+    KEEPS(9, append(room, room_len, NONE));
+    /* a dropped column's bytes stay, and are written over by the next one, as far as it goes */
+    BUILDS(drop_last(room, room_len), 1, 13, "D\0\0\0\x0c\0\x01\0\0\0\x02" "ab\xff\xff\xff\xffUUU");
+    BUILDS(tusweram_row_append(built, room, room_len, NONE), 2, 17, "D\0\0\0\x10\0\x02\0\0\0\x02" "ab\0\0\0\0UUU");
+    BUILDS(drop_last(room, room_len), 1, 13, "D\0\0\0\x0c\0\x01\0\0\0\x02" "ab\0\0\0\0UUU");
+    BUILDS(drop_last(room, room_len), 0, 7, "D\0\0\0\x06\0\0\0\0\0\x02" "ab\0\0\0\0UUU");
+    KEEPS(11, drop_last(room, room_len));
+    a_row(room, room_len);
+    BUILDS(append(room, room_len, BYTES("\0xy")), 1, 14, "D\0\0\0\x0d\0\x01\0\0\0\x03\0xy\0\0\0UUU");
+    BUILDS(begin(room, room_len), 0, 7, "D\0\0\0\x06\0\0\0\0\0\x03\0xy\0\0\0UUU");
+    BUILDS(append_null(room, room_len), 1, 11, "D\0\0\0\x0a\0\x01\xff\xff\xff\xff\0xy\0\0\0UUU");
+    BUILDS(append(room, room_len, BYTES("12345")), 2, 20, "D\0\0\0\x13\0\x02\xff\xff\xff\xff\0\0\0\x05" "12345");
+    /* 9 comes behind 4 */
+    static const uint8_t much[LIMIT];
+    KEEPS(9, append(room, room_len, much, LIMIT - 23));
+    KEEPS(4, append(room, room_len, much, LIMIT - 22));
+}
+
+/* Rooms of each length, up to one that the row fits in. */
+static void rooms_for_a_row(void) {
+    for (size_t room_len = 0; room_len <= 18; room_len++) {
+        uint8_t *room = fresh(room_len);
+        number(3, 19);
+        if (room_len < 7) {
+            KEEPS(9, begin(room, room_len));
+            continue;
+        }
+        CHECK(begin(room, room_len) == 0);
+        if (room_len < 13)
+            KEEPS(9, append(room, room_len, BYTES("ab")));
+        else
+            CHECK(append(room, room_len, BYTES("ab")) == 0 && built->columns == 1 && built->size == 13);
+        if (room_len < 11 || (room_len >= 13 && room_len < 17))
+            KEEPS(9, append_null(room, room_len));
+        else
+            CHECK(append_null(room, room_len) == 0 && built->size == (room_len < 13 ? 11 : 17));
+        a_row(room, room_len);
+    }
+    uint8_t *room = NULL;
+    size_t room_len = 0;
+    number(3, 19);
+    KEEPS(9, begin(room, room_len));
+    no_row(room, room_len);
+    number(0, 0);
+    no_row(room, room_len);
+}
+
+#define COLUMNS "D\0\0\0\x10\0\x02\0\0\0\x02" "ab\xff\xff\xff\xff"
+
+/* Each byte of a small row, changed to each other byte: only those of its value can be. */
+static void a_changed_room(void) {
+    size_t size = sizeof COLUMNS - 1, room_len = size + 5;
+    uint8_t *room = fresh(room_len);
+    memcpy(room, COLUMNS, size);
+    for (size_t i = 0; i < room_len; i++) {
+        for (int changed = 0; changed < 256; changed++) {
+            uint8_t old = room[i];
+            if (changed == old) continue;
+            room[i] = (uint8_t)changed;
+            number(2, size);
+            if (i == 11 || i == 12 || i >= size)
+                a_row(room, room_len);
+            else
+                no_row(room, room_len);
+            room[i] = old;
+        }
+    }
+    /* another row with the same numbers, an empty value and `ab`, is a row: what is dropped is its last column */
+    memcpy(room + 7, "\0\0\0\0\0\0\0\x02" "ab", 10);
+    BUILDS(drop_last(room, room_len), 1, 11, "D\0\0\0\x0a\0\x01\0\0\0\0\0\0\0\x02" "abUUUUU");
+    BUILDS(drop_last(room, room_len), 0, 7, "D\0\0\0\x06\0\0\0\0\0\0\0\0\0\x02" "abUUUUU");
+}
+
+/* Numbers that are not the row's, and rooms that begin with none. */
+static void forged_rows(void) {
+    static const size_t numbers[] = {0, 1, 2, 3, 6, 7, 11, 13, 16, 17, 18, 22, 23, 32767, 32768, 65536 + 2, LIMIT, FULL, SIZE_MAX / 2,
+                                     SIZE_MAX - 4, SIZE_MAX - 1, SIZE_MAX};
+    enum { NUMBERS = sizeof numbers / sizeof *numbers };
+    size_t size = sizeof COLUMNS - 1, room_len = size + 5;
+    uint8_t *room = fresh(room_len);
+    memcpy(room, COLUMNS, size);
+    for (int i = 0; i < NUMBERS; i++) {
+        for (int k = 0; k < NUMBERS; k++) {
+            number(numbers[i], numbers[k]);
+            if (numbers[i] == 2 && numbers[k] == size)
+                a_row(room, room_len);
+            else
+                no_row(room, room_len);
+        }
+    }
+    /* a row that is longer than the room */
+    for (room_len = 0; room_len < size; room_len++) {
+        room = fresh(room_len);
+        memcpy(room, COLUMNS, room_len);
+        number(2, size);
+        no_row(room, room_len);
+        number(2, room_len);
+        no_row(room, room_len);
+    }
+    /* 10 comes before 11: with no column, a size that is another */
+    room_len = 8;
+    room = fresh(room_len);
+    CHECK(begin(room, room_len) == 0);
+    number(0, 8);
+    no_row(room, room_len);
+    /* two words, two formats and no value at all: other kinds; a target with a name, which the frontend sends by the same type byte */
+    static const struct {
+        const char *bytes;
+        size_t size, columns;
+    } others[] = {
+        {"t\0\0\0\x0e\0\x02\0\0\0\x17\xff\xff\xff\xfe", 15, 2},
+        {"G\0\0\0\x0b\x01\0\x02\0\x01\xff\xff", 12, 2},
+        {"T\0\0\0\x06\0\0", 7, 0},
+        {"t\0\0\0\x06\0\0", 7, 0},
+        {"d\0\0\0\x06\0\0", 7, 0},
+        {"D\0\0\0\x06S\0", 7, 0},
+    };
+    for (size_t k = 0; k < sizeof others / sizeof *others; k++) {
+        room_len = others[k].size;
+        room = fresh(room_len);
+        memcpy(room, others[k].bytes, room_len);
+        number(others[k].columns, others[k].size);
+        no_row(room, room_len);
+    }
+}
+
+/* The frame's length up to 1,048,576, and one above. */
+static void a_row_at_the_limit(void) {
+    static uint8_t much[LIMIT];
+    memset(much, 'a', sizeof much);
+    /* one value that is all the limit leaves: just the room, a byte of room too few, and a byte of value too many */
+    size_t room_len = FULL;
+    uint8_t *room = fresh(room_len);
+    CHECK(begin(room, room_len) == 0);
+    KEEPS(4, append(room, room_len, much, LIMIT - 9));
+    CHECK(append(room, room_len, much, LIMIT - 10) == 0 && built->columns == 1 && built->size == FULL);
+    CHECK(memcmp(room, "D\0\x10\0\0\0\x01\0\x0f\xff\xf6", 11) == 0 && memcmp(room + 11, much, LIMIT - 10) == 0);
+    KEEPS(4, append_null(room, room_len));
+    KEEPS(4, append(room, room_len, NONE));
+    KEEPS(4, append(room, room_len, much, 1));
+    a_row(room, room_len);
+    room_len = FULL - 1;
+    room = fresh(room_len);
+    CHECK(begin(room, room_len) == 0);
+    KEEPS(9, append(room, room_len, much, LIMIT - 10));
+    KEEPS(4, append(room, room_len, much, LIMIT - 9));
+    /* and NULL, behind a value that leaves 4 bytes, and behind one that leaves 3 */
+    for (size_t left = 3; left <= 4; left++) {
+        room_len = FULL + 8;
+        room = fresh(room_len);
+        CHECK(begin(room, room_len) == 0 && append(room, room_len, much, LIMIT - 10 - left) == 0);
+        if (left == 3)
+            KEEPS(4, append_null(room, room_len));
+        else
+            CHECK(append_null(room, room_len) == 0 && built->columns == 2 && built->size == FULL);
+        a_row(room, room_len);
+        CHECK(drop_last(room, room_len) == 0 && built->columns == (left == 3 ? 0 : 1));
+        CHECK(memcmp(room + FULL, "UUUUUUUU", 8) == 0);
+    }
+}
+
+/* 32,767 columns, and one more. */
+static void a_row_of_all_columns(void) {
+    static const uint8_t much[LIMIT];
+    size_t size = 7 + 4 * SIGNED_MOST, room_len = size + 9;
+    uint8_t *room = fresh(room_len);
+    CHECK(lists(19, 0, NONE, NONE, NONE, room, room_len, NONE, empty_values, SIGNED_MOST, NONE, NONE) == size);
+    number(SIGNED_MOST, size);
+    a_row(room, room_len);
+    KEEPS(10, append(room, room_len, NONE));
+    KEEPS(10, append_null(room, room_len));
+    /* 10 comes before 4 and 9 */
+    KEEPS(10, append(room, room_len, much, LIMIT));
+    KEEPS(10, append(room, room_len, much, 6));
+    CHECK(drop_last(room, room_len) == 0 && built->columns == SIGNED_MOST - 1 && built->size == size - 4);
+    CHECK(memcmp(room, "D\0\x01\xff\xfe\x7f\xfe", 7) == 0);
+    KEEPS(9, append(room, room_len, much, 10));
+    CHECK(append(room, room_len, BYTES("123456789")) == 0 && built->columns == SIGNED_MOST && built->size == size + 9);
+    CHECK(memcmp(room, "D\0\x02\0\x0b\x7f\xff", 7) == 0 && memcmp(room + size - 4, "\0\0\0\x09" "123456789", 13) == 0);
+    KEEPS(10, append_null(room, room_len));
+    a_row(room, room_len);
+    /* all bytes of 32,768 empty values are no row */
+    room_len = size + 4;
+    room = fresh(room_len);
+    memset(room, 0, room_len);
+    memcpy(room, "D\0\x02\0\x06\x80", 6);
+    number(SIGNED_MOST + 1, size + 4);
+    no_row(room, room_len);
+}
+
 int main(void) {
     input_edge = edge();
     output_edge = edge();
     numbers_edge = edge();
+    built = (tusweram_row *)(void *)numbers_edge - 1;
     decoding();
     session_kinds();
     first_packets();
@@ -746,6 +1003,12 @@ int main(void) {
     unsigned_counts();
     signed_counts();
     a_long_bind();
+    a_row_built();
+    rooms_for_a_row();
+    a_changed_room();
+    forged_rows();
+    a_row_at_the_limit();
+    a_row_of_all_columns();
     printf("%d checks, %d wrong\n", checks, wrong);
     return wrong != 0;
 }

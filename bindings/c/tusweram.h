@@ -4,8 +4,8 @@
  * need nothing else, keep nothing between calls, allocate nothing, and may be called from any thread.
  *
  * A slice is two arguments: a pointer, and how many elements it has. NULL is allowed where the length is 0. What a host must see to: each
- * pointer has its length's elements, and what is written to (out, starts, lengths) overlaps no other argument. Anything else may have any
- * value: every call is proved to read and write inside its slices, and to answer as below, for every input.
+ * pointer has its length's elements, and what is written to (out, starts, lengths, row, room) overlaps no other argument. Anything else may
+ * have any value: every call is proved to read and write inside its slices, and to answer as below, for every input.
  *
  * Places and parts are counted from the buffer's first byte.
  */
@@ -113,14 +113,15 @@ enum tusweram_refusal {
     TUSWERAM_NOT_ALLOWED = 7,        /* a target or status that is none, or a value's length below -1 */
     TUSWERAM_BYTES_LEFT = 8,         /* bytes are left over after the last field */
     TUSWERAM_OUTPUT_TOO_SHORT = 9,   /* the output, or a slice lent for a row, is too short */
-    TUSWERAM_NOT_REPRESENTABLE = 10, /* the message cannot be written from what was given, as a text with a zero byte */
-    TUSWERAM_NO_SUCH_ELEMENT = 11    /* the element's number is too large, or there is no such list */
+    TUSWERAM_NOT_REPRESENTABLE = 10, /* the message cannot be written from what was given, as a text with a zero byte; a row being built: the
+                                        room does not begin with it, or it is full */
+    TUSWERAM_NO_SUCH_ELEMENT = 11    /* the element's number is too large, or there is no such list, or no column to drop */
 };
 
 /* The first message of a buffer; any bytes may follow it. */
 void tusweram_decode(uint8_t mode, const uint8_t *buf, size_t buf_len, size_t out[TUSWERAM_NUMBERS]);
 
-/* libhost_parts.a has this function and the five below; libhost.a has the others.
+/* libhost_parts.a has this function, the five below and the five of a row that is built; libhost.a has the others.
  *
  * An element of a list of the buffer's first message. BIND has lists 0 (formats), 1 (values) and 2 (result formats), every other kind with a
  * list has list 0. Each call decodes the message anew. */
@@ -200,6 +201,40 @@ struct tusweram_field_description {
 /* A ROW_DESCRIPTION, of at most 32,767 fields; more are refusal 10. */
 size_t tusweram_encode_row_description(const struct tusweram_field_description *fields, size_t fields_len, const uint8_t *run, size_t run_len,
                                        uint8_t *out, size_t out_len);
+
+/* ---- A DATA_ROW that is built column by column, at the start of a lent room. The host keeps the row's two numbers beside the room. The answer
+ * is 0, or a refusal's number.
+ *
+ * After an answer of 0 the numbers are the new row's, the room begins with the frame of its columns, and every later byte is kept; those of a
+ * dropped column stay where they stood. Where the answer is a refusal, the numbers and the room are as they were.
+ *
+ * The room begins with the row where tusweram_decode of it, as from the backend, gives a DATA_ROW of that count and takes that many bytes. Every
+ * call but tusweram_row_begin looks, so the numbers and the room may be anything, also changed between two calls. To look is a pass over the
+ * lengths of all columns: n columns, appended one by one, cost in the order of n times n. Where all values are at hand,
+ * tusweram_encode_lists writes the row at once.
+ *
+ * What a host must see to: row, room and value do not overlap. So no value is appended from the room itself. */
+typedef struct tusweram_row {
+    size_t columns; /* how many there are */
+    size_t size;    /* the bytes of the frame, with its type byte */
+} tusweram_row;
+
+/* A row with no column, 7 bytes; what the numbers were is not looked at. Refusal 9 where the room is shorter. */
+uint8_t tusweram_row_begin(tusweram_row *row, uint8_t *room, size_t room_len);
+
+/* One column more, behind the last: a value, which may be empty. Refusals, in this order: 10 where the room does not begin with the row, or the
+ * row has 32,767 columns; 4 where the frame's length would be above 1,048,576; 9 where the frame would be longer than the room. */
+uint8_t tusweram_row_append(tusweram_row *row, uint8_t *room, size_t room_len, const uint8_t *value, size_t value_len);
+
+/* The same of NULL. */
+uint8_t tusweram_row_append_null(tusweram_row *row, uint8_t *room, size_t room_len);
+
+/* One column fewer: the last goes. Refusal 10 where the room does not begin with the row, then 11 where it has no column. */
+uint8_t tusweram_row_drop_last(tusweram_row *row, uint8_t *room, size_t room_len);
+
+/* Whether the first row->size bytes of the room are the row's frame, to hand them out: refusal 10 where the room does not begin with the row. It
+ * changes nothing, and the row can be built on. */
+uint8_t tusweram_row_finish(const tusweram_row *row, const uint8_t *room, size_t room_len);
 
 #ifdef __cplusplus
 }

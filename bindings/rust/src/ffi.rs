@@ -1,4 +1,4 @@
-//! The boundary itself: the library's ten functions, over numbers and slices, as safe functions. All `unsafe` code of the crate is here.
+//! The boundary itself: the library's fifteen functions, over numbers and slices, as safe functions. All `unsafe` code of the crate is here.
 //!
 //! The other modules give these numbers their names; a host needs this one only to see an answer as it is.
 //!
@@ -11,12 +11,17 @@
 //! | 3 | the bytes consumed; of [`value`], [`field`], [`error_field`] and [`pair`], the next place |
 //! | 4 | the kind, or the sort of an element |
 //! | 5 .. | its fields: a part as its start and length, a list as its start and count, a signed number as its 32 bits |
+//!
+//! A row that is built is a [`Building`] of two numbers, which a call renews, and the call's answer is 0, or the refusal's number.
 
 use crate::FieldDescription;
 use core::mem::MaybeUninit;
 
 /// An answer: sixteen numbers.
 pub type Row = [usize; 16];
+
+/// A row that is built: its columns, and the size of its frame with the type byte.
+pub type Building = [usize; 2];
 
 // Nothing checks these declarations against the Rattle source: tests/boundary.rs calls each with known answers.
 extern "C" {
@@ -75,6 +80,11 @@ extern "C" {
         out: *mut u8,
         out_len: usize,
     ) -> usize;
+    fn tusweram_row_begin(row: *mut usize, room: *mut u8, room_len: usize) -> u8;
+    fn tusweram_row_append(row: *mut usize, room: *mut u8, room_len: usize, value: *const u8, value_len: usize) -> u8;
+    fn tusweram_row_append_null(row: *mut usize, room: *mut u8, room_len: usize) -> u8;
+    fn tusweram_row_drop_last(row: *mut usize, room: *mut u8, room_len: usize) -> u8;
+    fn tusweram_row_finish(row: *const usize, room: *const u8, room_len: usize) -> u8;
 }
 
 // Why each call is safe: every pointer and its length are those of a slice or array that lives through the call, a `&mut` is of no other
@@ -182,4 +192,29 @@ pub fn encode_lists(kind: usize, given: Lists<'_>, out: &mut [u8]) -> usize {
 /// Writes a RowDescription. The answer is as of [`encode`].
 pub fn encode_row_description(fields: &[FieldDescription], run: &[u8], out: &mut [u8]) -> usize {
     unsafe { tusweram_encode_row_description(fields.as_ptr(), fields.len(), run.as_ptr(), run.len(), out.as_mut_ptr(), out.len()) }
+}
+
+/// Begins a row with no column at the room's start. The answer of this and of the four below: 0, or the refusal's number.
+pub fn row_begin(row: &mut Building, room: &mut [u8]) -> u8 {
+    unsafe { tusweram_row_begin(row.as_mut_ptr(), room.as_mut_ptr(), room.len()) }
+}
+
+/// Appends a value to the row at the room's start.
+pub fn row_append(row: &mut Building, room: &mut [u8], value: &[u8]) -> u8 {
+    unsafe { tusweram_row_append(row.as_mut_ptr(), room.as_mut_ptr(), room.len(), value.as_ptr(), value.len()) }
+}
+
+/// The same of NULL.
+pub fn row_append_null(row: &mut Building, room: &mut [u8]) -> u8 {
+    unsafe { tusweram_row_append_null(row.as_mut_ptr(), room.as_mut_ptr(), room.len()) }
+}
+
+/// Drops the row's last column.
+pub fn row_drop_last(row: &mut Building, room: &mut [u8]) -> u8 {
+    unsafe { tusweram_row_drop_last(row.as_mut_ptr(), room.as_mut_ptr(), room.len()) }
+}
+
+/// Whether the room begins with the row.
+pub fn row_finish(row: &Building, room: &[u8]) -> u8 {
+    unsafe { tusweram_row_finish(row.as_ptr(), room.as_ptr(), room.len()) }
 }

@@ -23,7 +23,8 @@
 //! assert_eq!((end, at), ("need-more", 10));
 //! ```
 //!
-//! [`encode`] writes messages, [`lists`] says what walking a list costs, [`refusal`] what the numbers of refusals mean.
+//! [`encode`] writes messages, [`row_builder`] a row column by column, [`lists`] says what walking a list costs, [`refusal`] what the numbers
+//! of refusals mean.
 
 #![no_std]
 #![deny(unsafe_code)]
@@ -35,11 +36,13 @@ pub mod lists;
 pub mod message;
 mod numbers;
 pub mod refusal;
+pub mod row_builder;
 
 pub use encode::{Encoded, FieldDescription, Span};
 pub use lists::{ErrorField, ErrorFields, Field, Fields, Formats, Oids, Pairs, Values};
 pub use message::*;
 pub use refusal::Refusal;
+pub use row_builder::RowBuilder;
 
 use numbers::{half, part, sort};
 

@@ -20,9 +20,9 @@ pub const NOT_ALLOWED: u8 = 7;
 pub const BYTES_LEFT: u8 = 8;
 /// The output, or a slice lent for a row, is too short.
 pub const OUTPUT_TOO_SHORT: u8 = 9;
-/// Encoding: the message cannot be written, as a string with a zero byte in it.
+/// Encoding: the message cannot be written, as a string with a zero byte in it. A row being built: the room does not begin with it, or it is full.
 pub const NOT_REPRESENTABLE: u8 = 10;
-/// The kind has no such list, or the list no such element.
+/// The kind has no such list, or the list no such element, or the row no column to drop.
 pub const NO_SUCH_ELEMENT: u8 = 11;
 
 /// A refusal: its number, one of this module's constants, and its place, counted from the buffer's start.
@@ -56,8 +56,8 @@ impl Refusal {
             NOT_ALLOWED => "a target or status that is none, or a value's length below -1",
             BYTES_LEFT => "bytes are left over after the last field",
             OUTPUT_TOO_SHORT => "the output is too short",
-            NOT_REPRESENTABLE => "the message cannot be written from what was given",
-            NO_SUCH_ELEMENT => "the element's number is too large, or there is no such list",
+            NOT_REPRESENTABLE => "the message cannot be written from what was given; a row's room does not begin with it, or it is full",
+            NO_SUCH_ELEMENT => "the element's number is too large, or there is no such list, or no column to drop",
             _ => "a number that this crate does not know",
         }
     }

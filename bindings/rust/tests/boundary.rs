@@ -230,3 +230,59 @@ fn encode_row_description() {
     }
     assert_eq!(ffi::encode_row_description(&[field], b"xay", &mut out[..26]), usize::MAX - 9);
 }
+
+#[test]
+fn row_begin() {
+    let (mut row, mut room) = ([5, 6], [0x55; 8]);
+    assert_eq!(ffi::row_begin(&mut row, &mut room), 0);
+    assert_eq!((row, room), ([0, 7], *b"D\0\0\0\x06\0\0U"));
+    let (mut row, mut room) = ([5, 6], [0x55; 6]);
+    assert_eq!(ffi::row_begin(&mut row, &mut room), 9);
+    assert_eq!(ffi::row_begin(&mut row, &mut []), 9);
+    assert_eq!((row, room), ([5, 6], [0x55; 6]));
+}
+
+#[test]
+fn row_append() {
+    let (mut row, mut room) = ([0, 7], *b"D\0\0\0\x06\0\0UUUUUUUUUUU");
+    assert_eq!(ffi::row_append(&mut row, &mut room, b"ab"), 0);
+    assert_eq!((row, room), ([1, 13], *b"D\0\0\0\x0c\0\x01\0\0\0\x02abUUUUU"));
+    assert_eq!(ffi::row_append(&mut row, &mut room, b"cd"), 9);
+    assert_eq!(ffi::row_append(&mut row, &mut room, &[0; 1048561]), 4);
+    assert_eq!(ffi::row_append(&mut [2, 13], &mut room, b""), 10);
+    assert_eq!((row, room), ([1, 13], *b"D\0\0\0\x0c\0\x01\0\0\0\x02abUUUUU"));
+    assert_eq!(ffi::row_append(&mut row, &mut room, b""), 0);
+    assert_eq!((row, room), ([2, 17], *b"D\0\0\0\x10\0\x02\0\0\0\x02ab\0\0\0\0U"));
+    assert_eq!(ffi::row_append(&mut row, &mut [], b""), 10);
+}
+
+#[test]
+fn row_append_null() {
+    let (mut row, mut room) = ([0, 7], *b"D\0\0\0\x06\0\0UUUUUU");
+    assert_eq!(ffi::row_append_null(&mut row, &mut room), 0);
+    assert_eq!((row, room), ([1, 11], *b"D\0\0\0\x0a\0\x01\xff\xff\xff\xffUU"));
+    assert_eq!(ffi::row_append_null(&mut row, &mut room), 9);
+    assert_eq!(ffi::row_append_null(&mut row, &mut []), 10);
+    assert_eq!((row, room), ([1, 11], *b"D\0\0\0\x0a\0\x01\xff\xff\xff\xffUU"));
+}
+
+#[test]
+fn row_drop_last() {
+    let (mut row, mut room) = ([2, 17], ROW.to_vec());
+    assert_eq!(ffi::row_drop_last(&mut row, &mut room), 0);
+    assert_eq!((row, &room[..]), ([1, 13], &b"D\0\0\0\x0c\0\x01\0\0\0\x02ab\xff\xff\xff\xff"[..]));
+    assert_eq!(ffi::row_drop_last(&mut row, &mut room), 0);
+    assert_eq!((row, &room[..]), ([0, 7], &b"D\0\0\0\x06\0\0\0\0\0\x02ab\xff\xff\xff\xff"[..]));
+    assert_eq!(ffi::row_drop_last(&mut row, &mut room), 11);
+    assert_eq!(ffi::row_drop_last(&mut [0, 8], &mut room), 10);
+    assert_eq!(ffi::row_drop_last(&mut row, &mut []), 10);
+    assert_eq!((row, &room[..]), ([0, 7], &b"D\0\0\0\x06\0\0\0\0\0\x02ab\xff\xff\xff\xff"[..]));
+}
+
+#[test]
+fn row_finish() {
+    assert_eq!(ffi::row_finish(&[2, 17], ROW), 0);
+    for (row, room) in [([2, 16], ROW), ([1, 17], ROW), ([2, 17], &ROW[..16]), ([0, 0], &ROW[..0]), ([usize::MAX; 2], ROW)] {
+        assert_eq!(ffi::row_finish(&row, room), 10);
+    }
+}
