@@ -1,10 +1,11 @@
 -- A row that is built, at the boundary: two numbers in the place of a record, and a refusal's number in the place of an answer.
-use Prim.Native.Nat.{ℕ}
+use Prim.Native.Nat.{ℕ, zero, suc}
 use mathlib.Core.List.{List, [], _∷_}
 use mathlib.Core.Path.{_≡_}
 use lib.ListN.{getD}
 use Rattle.protocol.specs.declared.Encoded.the-variants as N
 use Rattle.protocol.specs.declared.Encoded.{Encoded}
+use Rattle.protocol.specs.Answers.{Answer, success, refusal}
 use Rattle.row_builder.specs.Building.{leftBy}
 use Rattle.row_builder.specs.declared.Built.the-variants as B
 use Rattle.row_builder.specs.declared.Built.{Built}
@@ -22,6 +23,11 @@ numberOf (B.Refused number place) = number
 abbrev pub refusalOf : Encoded → ℕ
 refusalOf (N.Done n) = 0
 refusalOf (N.Refused number place) = number
+
+-- how a host reads that number
+unfoldable pub ofNumber : ℕ → Answer (Unit {0})
+ofNumber zero = success tt 0
+ofNumber (suc n) = refusal (suc n) 0
 
 -- the new row's numbers; a refusal keeps the old ones
 abbrev pub rowNumbers : Built → List ℕ → List ℕ

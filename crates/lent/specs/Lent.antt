@@ -13,9 +13,12 @@ use Rattle.protocol.specs.Kinds.{Kind, Mode}
 use Rattle.protocol.specs.WellFormed.{Contents}
 use Rattle.host.specs.Asked.{Asked, Answers, answerBy}
 use Rattle.host_layout.specs.LaidOut.{ofNumbers}
+use Rattle.host_parts.specs.Built.{Renews, ofNumber}
 use Rattle.host_parts.specs.Reads.{LaysRow}
 use Rattle.reader.specs.declared.row.Row.{Row}
 use Rattle.reader.specs.Row.{ofRow, ReadsRow}
+use Rattle.row_builder.specs.Building.{leftBy, ofBuilt}
+use Rattle.row_builder.specs.declared.Built.{Built}
 
 -- a call that is lent L: `Promise` is its contract, of what was lent before, the answer, and what was lent after; `says` sets its answer out
 abbrev pub Leaves : {L R X : Type 0} → (R → Answer X) → (L → R → L → Type 0) → Type 0
@@ -25,6 +28,11 @@ Leaves {L} {R} says Promise = (before after : L) (r : R) → Promise before r af
 pub record Lists : Type 0 where
   pub starts : List ℕ
   pub lengths : List ℤ
+
+-- a row's two numbers, and the room that it is built in
+pub record Building : Type 0 where
+  pub row : List ℕ
+  pub room : List ℕ
 
 pub record Lent : Type 0 where
   -- crate encode: each encoder, whose contract is of this form
@@ -38,3 +46,9 @@ pub record Lent : Type 0 where
   -- host_parts::reading::tusweram_data_row: both lists; its answer is the sixteen numbers
   pub «tusweram_data_row» : (s : List ℕ)
       → Leaves ofNumbers (λ (x : Lists) (r : List ℕ) (y : Lists). LaysRow s (x .starts) (x .lengths) (y .starts) (y .lengths) r)
+  -- crate row_builder: each call that writes, whose contract is of this form
+  pub «row_builder» : (definition : List ℕ → Built) (p : ℕ) (xs : List ℕ)
+      → Leaves ofBuilt (λ room (r : Built) left. (r ≡ definition room) × (left ≡ leftBy r p xs room))
+  -- host_parts::building: the two numbers and the room; its answer is the refusal's number
+  pub «tusweram_row» : (definition : Building → Built) (p : ℕ) (xs : List ℕ)
+      → Leaves ofNumber (λ (x : Building) (n : ℕ) (y : Building). Renews (definition x) p xs (x .row) (x .room) n (y .row) (y .room))

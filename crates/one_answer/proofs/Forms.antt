@@ -45,7 +45,7 @@ use Rattle.listing.specs.declared.Step.{Step}
 use Rattle.writers.proofs.Puts.{has-room}
 use Rattle.reader.specs.Row.{placesIn, startsOf, lengthsOf, over}
 use Rattle.reader.specs.declared.row.Row.{Row}
-use Rattle.one_answer.specs.Forms.{Tells, ByDefinition, WithBuffer, StepsTell, ItemsTell, ListingTells, Encoders, HostEncoders, Writers, Pages, Readers, WholeRows, HostRows}
+use Rattle.one_answer.specs.Forms.{Tells, ByDefinition, WithBuffer, StepsTell, ItemsTell, ListingTells, Encoders, HostEncoders, Writers, Pages, Readers, WholeRows, HostRows, HostBuilders}
 
 -- ---- a step's answer is told by what it reads
 
@@ -226,3 +226,6 @@ whole-rows buf starts lengths r s x y u v p q =
 
 pub host-rows : HostRows
 host-rows buf starts lengths r s x y u v p q = (p .answer ∙ sym (q .answer), p .starts ∙ sym (q .starts), p .lengths ∙ sym (q .lengths))
+
+pub host-builders : HostBuilders
+host-builders built p xs row room r s x y u v h k = (h .answer ∙ sym (k .answer), h .row ∙ sym (k .row), h .room ∙ sym (k .room))

@@ -16,6 +16,7 @@ use Rattle.protocol.specs.Reading.{got}
 use Rattle.protocol.specs.WellFormed.{Contents}
 use Rattle.codec.specs.CursorRead.{byteRead, halfRead, wordRead, textRead, valueRead, listedRead, passedRead}
 use Rattle.host.specs.Asked.{Asked, Answers}
+use Rattle.host_parts.specs.Built.{Renews}
 use Rattle.host_parts.specs.Reads.{LaysRow}
 use Rattle.items.specs.ItemRead.{fieldRead, errorRead, pairRead}
 use Rattle.listing.specs.Listing.{Lines, Fills, stepOf}
@@ -23,6 +24,7 @@ use Rattle.listing.specs.declared.Filled.{Filled}
 use Rattle.reader.specs.Row.{ReadsRow}
 use Rattle.reader.specs.declared.FrameReader.{FrameReader}
 use Rattle.reader.specs.declared.row.Row.{Row}
+use Rattle.row_builder.specs.declared.Built.{Built}
 use Rattle.writers.specs.Writing.{Put}
 
 -- an answer
@@ -108,3 +110,9 @@ abbrev pub HostRows : Type 0
 HostRows =
     (buf starts : List ℕ) (lengths : List ℤ)
     → DeterminesAll (λ (out′ starts′ : List ℕ) (lengths′ : List ℤ). LaysRow buf starts lengths starts′ lengths′ out′)
+
+-- a row that is built, at the boundary, with its two numbers and its room
+abbrev pub HostBuilders : Type 0
+HostBuilders =
+    (built : Built) (p : ℕ) (xs row room : List ℕ)
+    → DeterminesAll (λ (r : ℕ) (row′ room′ : List ℕ). Renews built p xs row room r row′ room′)
