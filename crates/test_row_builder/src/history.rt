@@ -27,27 +27,27 @@ fn malformed(kept: Kept) -> Kept {
 }
 
 // A room that no call has seen, with the row that no room begins with.
-fn new_room(lent: usize, room: &mut [u8; ROOM]) -> Kept {
-    for i in 0..ROOM {
+fn new_room(lent: usize, room: &mut [u8]) -> Kept {
+    for i in 0..room.len() {
         room[i] = calls::SPARE;
     }
     kept_of(lent, 0, 0)
 }
 
-fn put_byte(room: &mut [u8; ROOM], at: usize, byte: u8) {
-    if at < ROOM {
+fn put_byte(room: &mut [u8], at: usize, byte: u8) {
+    if at < room.len() {
         room[at] = byte;
     }
 }
 
-fn put_bytes(room: &mut [u8; ROOM], place: usize, bytes: &[u8]) {
+fn put_bytes(room: &mut [u8], place: usize, bytes: &[u8]) {
     for i in 0..bytes.len() {
         put_byte(room, std::num::wrapping_add_usize(place, i), bytes[i]);
     }
 }
 
 // A change between two calls, by the first letter of its name.
-fn change(name: u8, head: Head, kept: Kept, room: &mut [u8; ROOM], bytes: &[u8]) -> Kept {
+fn change(name: u8, head: Head, kept: Kept, room: &mut [u8], bytes: &[u8]) -> Kept {
     let row = kept.row;
     match name {
         b'r' => new_room(head.second, room),
@@ -80,9 +80,9 @@ fn call(name: u8, row: Row, room: &mut [u8], value: &[u8]) -> Row {
 }
 
 // The same on what is lent of the room.
-fn call_in(name: u8, kept: Kept, room: &mut [u8; ROOM], value: &[u8]) -> Kept {
+fn call_in(name: u8, kept: Kept, room: &mut [u8], value: &[u8]) -> Kept {
     let lent = kept.lent;
-    if ROOM < lent {
+    if room.len() < lent {
         return malformed(kept);
     }
     let row = call(name, kept.row, &mut room[..lent], value);
@@ -90,14 +90,14 @@ fn call_in(name: u8, kept: Kept, room: &mut [u8; ROOM], value: &[u8]) -> Kept {
     Kept { lent, row }
 }
 
-fn answer(name: u8, head: Head, kept: Kept, room: &mut [u8; ROOM], bytes: &[u8]) -> Kept {
+fn answer(name: u8, head: Head, kept: Kept, room: &mut [u8], bytes: &[u8]) -> Kept {
     if is_call(name) {
         return call_in(name, kept, room, bytes);
     }
     change(name, head, kept, room, bytes)
 }
 
-fn answer_case(name: u8, line: &[u8], kept: Kept, room: &mut [u8; ROOM]) -> Kept {
+fn answer_case(name: u8, line: &[u8], kept: Kept, room: &mut [u8]) -> Kept {
     let head = case::read_head(line);
     let end = head.end;
     let mut bytes = [0u8; ROOM];
@@ -107,13 +107,13 @@ fn answer_case(name: u8, line: &[u8], kept: Kept, room: &mut [u8; ROOM]) -> Kept
     }
 }
 
-fn write_room(lent: usize, room: &[u8; ROOM]) {
+fn write_room(lent: usize, room: &[u8]) {
     write(b"room");
     test_cases::write_hex(decode::part(room, 0, lent));
 }
 
 // Every line is written back; what is no comment, with its answer and the room.
-fn answer_line(line: &[u8], kept: Kept, room: &mut [u8; ROOM]) -> Kept {
+fn answer_line(line: &[u8], kept: Kept, room: &mut [u8]) -> Kept {
     let name = if line.len() == 0 { 0 } else { line[0] };
     write(line);
     if name == b'#' {
@@ -127,13 +127,17 @@ fn answer_line(line: &[u8], kept: Kept, room: &mut [u8; ROOM]) -> Kept {
     next
 }
 
-pub fn answer_lines(input: &[u8]) {
-    let mut room = [calls::SPARE; ROOM];
+fn answer_lines(input: &[u8], room: &mut [u8]) {
     let mut kept = kept_of(0, 0, 0);
     let mut start: usize = 0;
     while start < input.len() {
         let end = test_cases::line_end(input, start);
-        kept = answer_line(&input[start..end], kept, &mut room);
+        kept = answer_line(&input[start..end], kept, room);
         start = end + 1;
     }
+}
+
+pub fn answer_each(input: &[u8]) {
+    let mut room = [calls::SPARE; ROOM];
+    answer_lines(input, &mut room);
 }

@@ -12,7 +12,7 @@ use libc::STDIN_FILENO;
 fn main() {
     let mut input = io::large_buffer();
     let count = io::read_full(STDIN_FILENO, &mut input);
-    history::answer_lines(&input[..count]);
+    history::answer_each(&input[..count]);
     limit::answer_each();
     columns::answer_each();
 }
