@@ -27,7 +27,7 @@ use Rattle.row_builder.specs.declared.Row.{Row}
 
 -- ---- whether the room begins with a well-formed row of the stored count and size, which is decode's word
 
-abbrev hasCount : ℕ → Option ListSlot → Bool
+abbrev pub hasCount : ℕ → Option ListSlot → Bool
 hasCount n none = false
 hasCount n (some l) = eqb (l .count) n
 
@@ -61,7 +61,7 @@ abbrev pub appendOf : Row → Option (List ℕ) → List ℕ → Built
 appendOf row value room = growOf row (length (valueBytes value)) room
 
 -- where the first n columns of a row's frame end
-abbrev placeOf : Read (Unit {0}) → ℕ
+abbrev pub placeOf : {X : Type 0} → Read X → ℕ
 placeOf (got _ next) = next
 placeOf (bad number place) = place
 

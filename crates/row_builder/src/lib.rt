@@ -1,6 +1,6 @@
 // A row that is built column by column, at the start of a lent room. The caller keeps the row's count and size beside the room; each call
 // decodes the room first, and so takes any two numbers and any bytes.
-ghost use Prim.Native.Nat.{_≤_};
+ghost use Prim.Native.Nat.{_+_, _^_, _≤_, _<_};
 ghost use mathlib.Core.List.{[]};
 ghost use mathlib.Core.Option.{none, some};
 ghost use mathlib.Core.Path.{_≡_};
@@ -67,8 +67,9 @@ fn row_of(columns: usize, sized: Encoded) -> Built
     }
 }
 
-// The row with one column more, of n bytes with its length.
+// The row with one column more, of n bytes: its length's four, and a slice's.
 fn grown(row: Row, n: usize, room: &[u8]) -> Built
+    requires { ⌜ n < 4 + 2 ^ 63 ⌝ }
     ensures { λ r. ⌜ r ≡ B.growOf row n (now (room .entry)) ⌝ }
 {
     let able = stands(row, room) & (row.columns < MOST_SIGNED);

@@ -1,68 +1,73 @@
+-- `row_builder::append` meets its contract: the longer row first, then its last column, then its head.
+use Prim.Native.Nat.{_+_}
+use mathlib.Core.Option.{some}
+use mathlib.Core.Path.{_≡_, refl, sym, _∙_}
+use native.Mathlib.Omega.{arith}
 use borrow.Author.Needs.{needs}
+use denote.Ref.{now}
+use lib.ListN.{length}
+use Rattle.protocol.specs.Fields.{valueBytes}
+use Rattle.writers.proofs.Puts.{same-size}
+use Rattle.row_builder.specs.Building.{appendOf}
+use Rattle.row_builder.specs.declared.Built.the-variants as B
+use Rattle.row_builder.specs.declared.Row.{Row}
+use Rattle.row_builder.proofs.Rows.{Grown, done, grown-is, refused, value-long}
 use Rattle.row_builder.proofs.append.Statement.{statement}
 use Rattle.row_builder.proofs.append.Tie as tie
-use Rattle.row_builder.proofs.append.Reads as reads
-use Rattle.row_builder.proofs.append.Lts as lts
-use Rattle.row_builder.proofs.grown.Reads as grown-reads
-use Rattle.row_builder.proofs.put_row_head.Reads as put-row-head-reads
-use Rattle.writers.proofs.put_value.Reads as put-value-reads
 
--- src/lib.rt:133:24
-add-grown : tie.Need-add-grown
-add-grown c = search needs
+abbrev start : tie.After-grown → tie.Start
+start c = c .before .before .before .before
 
--- src/lib.rt:133:9
+says : (c : tie.After-grown) → let a = start c .args in c .grown .result ≡ appendOf (a .row) (some (now (a .value))) (now (a .room))
+says c = rw (value-long (now (start c .args .value))) (c .grown .ensures)
+
+longer : (c : tie.After-grown) (next : Row) → c .grown .result ≡ B.Is next → let a = start c .args in
+    Grown (a .row) (4 + length (now (a .value))) (now (a .room)) next
+longer c next is = grown-is _ _ _ _ (sym (c .grown .ensures) ∙ is)
+
 grown-requires : tie.Need-grown-requires
-grown-requires c κs = search needs
+grown-requires c κs = omega (arith, c .before .before .before .good)
 
--- src/lib.rt:134:19
-enum-known-r : tie.Need-enum-known-r
-enum-known-r c = search needs
-
--- src/lib.rt:135:9
-enum-told : tie.Need-enum-told
-enum-told c = search needs
-
--- src/lib.rt:135:9
-same-length : tie.Need-same-length
-same-length c = search needs
-
--- src/lib.rt:135:9
 returns : tie.Need-returns
-returns c = ?
+returns c = refused _ _ _ (says (c .before .before)) (c .enum-told .given .1)
 
--- src/lib.rt:137:31
 cast-put-value : tie.Need-cast-put-value
-cast-put-value c = ?
+cast-put-value c =
+    let r = c .before .before in
+    let g = longer (r .before .before) _ (r .r .given .1) in
+    omega (arith, g .size, g .fits .small)
 
--- src/lib.rt:137:5
-put-value-requires : tie.Need-put-value-requires
-put-value-requires c κs = search needs
-
--- src/lib.rt:138:5
 put-row-head-requires : tie.Need-put-row-head-requires
-put-row-head-requires c κs = ?
+put-row-head-requires c κs =
+    let p = c .before .before .before in
+    let r = p .before .before .before in
+    let g = longer (r .before .before) _ (r .r .given .1) in
+    let f = g .fits in
+    let w = p .put-value .ensures .fits refl (omega (arith, g .size, f .within)) in
+    (f .some, omega (arith, f .within, same-size w), f .small, f .few)
 
--- src/lib.rt:130:1
-same-length-2 : tie.Need-same-length-2
-same-length-2 c = search needs
-
--- src/lib.rt:130:1
 returns-2 : tie.Need-returns-2
-returns-2 c = ?
+unfolding valueBytes
+returns-2 c =
+    let h = c .before .before in
+    let p = h .before .before .before .before in
+    let r = p .before .before .before in
+    let g = longer (r .before .before) _ (r .r .given .1) in
+    let w = p .put-value .ensures .fits refl (omega (arith, g .size, g .fits .within)) in
+    done _ _ _ (says (r .before .before)) (r .r .given .1) (w .bytes) (h .put-row-head .ensures)
 
 pub append-spec : {M : Type 1} → statement M
 append-spec =
     tie.close
     (tie.spec
-    add-grown
+    (λ c. search needs)
     grown-requires
-    enum-known-r
-    enum-told
-    same-length
+    (λ c. search needs)
+    (λ c. search needs)
+    (λ c. search needs)
     returns
     cast-put-value
-    put-value-requires
+    (λ c κs. search needs)
     put-row-head-requires
-    same-length-2
+    (λ c. search needs)
     returns-2)

@@ -1,58 +1,60 @@
+-- `row_builder::append_null` meets its contract, as `append` does.
+use mathlib.Core.Option.{none}
+use mathlib.Core.Path.{_≡_, refl, sym, _∙_}
+use native.Mathlib.Omega.{arith}
 use borrow.Author.Needs.{needs}
+use denote.Ref.{now}
+use Rattle.protocol.specs.Bytes.{bitsOf}
+use Rattle.protocol.specs.Fields.{valueBytes}
+use Rattle.writers.proofs.Puts.{same-size}
+use Rattle.row_builder.specs.Building.{appendOf}
+use Rattle.row_builder.specs.declared.Built.the-variants as B
+use Rattle.row_builder.specs.declared.Row.{Row}
+use Rattle.row_builder.proofs.Rows.{Grown, done, grown-is, null-long, refused}
 use Rattle.row_builder.proofs.append_null.Statement.{statement}
 use Rattle.row_builder.proofs.append_null.Tie as tie
-use Rattle.row_builder.proofs.append_null.Reads as reads
-use Rattle.row_builder.proofs.append_null.Lts as lts
-use Rattle.row_builder.proofs.grown.Reads as grown-reads
-use Rattle.row_builder.proofs.put_row_head.Reads as put-row-head-reads
-use Rattle.writers.proofs.put_word.Reads as put-word-reads
 
--- src/lib.rt:146:9
-grown-requires : tie.Need-grown-requires
-grown-requires c κs = search needs
+abbrev start : tie.After-grown → tie.Start
+start c = c .before .before .before
 
--- src/lib.rt:147:19
-enum-known-r : tie.Need-enum-known-r
-enum-known-r c = search needs
+says : (c : tie.After-grown) → let a = start c .args in c .grown .result ≡ appendOf (a .row) none (now (a .room))
+says c = rw null-long (c .grown .ensures)
 
--- src/lib.rt:148:9
-enum-told : tie.Need-enum-told
-enum-told c = search needs
+longer : (c : tie.After-grown) (next : Row) → c .grown .result ≡ B.Is next → let a = start c .args in Grown (a .row) 4 (now (a .room)) next
+longer c next is = grown-is _ _ _ _ (sym (c .grown .ensures) ∙ is)
 
--- src/lib.rt:148:9
-same-length : tie.Need-same-length
-same-length c = search needs
-
--- src/lib.rt:148:9
 returns : tie.Need-returns
-returns c = ?
+returns c = refused _ _ _ (says (c .before .before)) (c .enum-told .given .1)
 
--- src/lib.rt:150:5
-put-word-requires : tie.Need-put-word-requires
-put-word-requires c κs = search needs
-
--- src/lib.rt:151:5
 put-row-head-requires : tie.Need-put-row-head-requires
-put-row-head-requires c κs = ?
+put-row-head-requires c κs =
+    let p = c .before .before .before in
+    let r = p .before .before .before in
+    let g = longer (r .before .before) _ (r .r .given .1) in
+    let f = g .fits in
+    let w = p .put-word .ensures .fits refl (omega (arith, g .size, f .within)) in
+    (f .some, omega (arith, f .within, same-size w), f .small, f .few)
 
--- src/lib.rt:143:1
-same-length-2 : tie.Need-same-length-2
-same-length-2 c = search needs
-
--- src/lib.rt:143:1
 returns-2 : tie.Need-returns-2
-returns-2 c = ?
+unfolding valueBytes bitsOf
+returns-2 c =
+    let h = c .before .before in
+    let p = h .before .before .before .before in
+    let r = p .before .before .before in
+    let g = longer (r .before .before) _ (r .r .given .1) in
+    let w = p .put-word .ensures .fits refl (omega (arith, g .size, g .fits .within)) in
+    done _ _ _ (says (r .before .before)) (r .r .given .1) (w .bytes) (h .put-row-head .ensures)
 
 pub append-null-spec : {M : Type 1} → statement M
 append-null-spec =
     tie.close
     (tie.spec
-    grown-requires
-    enum-known-r
-    enum-told
-    same-length
+    (λ c κs. search needs)
+    (λ c. search needs)
+    (λ c. search needs)
+    (λ c. search needs)
     returns
-    put-word-requires
+    (λ c κs. search needs)
     put-row-head-requires
-    same-length-2
+    (λ c. search needs)
     returns-2)

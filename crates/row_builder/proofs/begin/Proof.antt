@@ -1,58 +1,43 @@
+-- `row_builder::begin` meets its contract: the room for an empty row, and its head.
+use mathlib.Core.Path.{_≡_, refl, ap, sym, _∙_}
+use native.Mathlib.Omega.{arith}
 use borrow.Author.Needs.{needs}
+use denote.Ref.{now}
+use Rattle.protocol.specs.Kinds.{dataRow}
+use Rattle.row_builder.specs.Building.{beginOf, builtBy}
+use Rattle.row_builder.proofs.Rows.{begun-is, done, refused}
 use Rattle.row_builder.proofs.begin.Statement.{statement}
 use Rattle.row_builder.proofs.begin.Tie as tie
-use Rattle.row_builder.proofs.begin.Reads as reads
-use Rattle.row_builder.proofs.begin.Lts as lts
-use Rattle.row_builder.proofs.put_row_head.Reads as put-row-head-reads
-use Rattle.row_builder.proofs.row_of.Reads as row-of-reads
-use Rattle.writers.proofs.verdict.Reads as verdict-reads
 
--- src/lib.rt:120:44
-sub-verdict : tie.Need-sub-verdict
-sub-verdict c = search needs
+says : (c : tie.After-row-of) → c .row-of .result ≡ beginOf (now (c .before .before .before .args .room))
+unfolding beginOf dataRow
+says c = c .row-of .ensures ∙ ap (builtBy 0) (c .before .verdict .ensures)
 
--- src/lib.rt:120:23
-verdict-requires : tie.Need-verdict-requires
-verdict-requires c κs = search needs
-
--- src/lib.rt:120:9
-row-of-requires : tie.Need-row-of-requires
-row-of-requires c κs = search needs
-
--- src/lib.rt:121:19
-enum-known-r : tie.Need-enum-known-r
-enum-known-r c = search needs
-
--- src/lib.rt:122:9
-enum-told : tie.Need-enum-told
-enum-told c = search needs
-
--- src/lib.rt:122:9
 returns : tie.Need-returns
-returns c = ?
+returns c = refused 0 _ _ (says (c .before .before)) (c .enum-told .given .1)
 
--- src/lib.rt:124:5
 put-row-head-requires : tie.Need-put-row-head-requires
-put-row-head-requires c κs = ?
+put-row-head-requires c κs =
+    let r = c .before .before in
+    let f = begun-is _ _ (sym (says (r .before .before)) ∙ r .r .given .1) in
+    (f .some, f .within, f .small, f .few)
 
--- src/lib.rt:117:1
-same-length : tie.Need-same-length
-same-length c = search needs
-
--- src/lib.rt:117:1
 returns-2 : tie.Need-returns-2
-returns-2 c = ?
+returns-2 c =
+    let p = c .before .before in
+    let r = p .before .before .before in
+    done 0 _ _ (says (r .before .before)) (r .r .given .1) refl (p .put-row-head .ensures)
 
 pub begin-spec : {M : Type 1} → statement M
 begin-spec =
     tie.close
     (tie.spec
-    sub-verdict
-    verdict-requires
-    row-of-requires
-    enum-known-r
-    enum-told
+    (λ c. search needs)
+    (λ c κs. search needs)
+    (λ c κs. search needs)
+    (λ c. search needs)
+    (λ c. search needs)
     returns
     put-row-head-requires
-    same-length
+    (λ c. search needs)
     returns-2)

@@ -1,53 +1,58 @@
+-- `row_builder::grown` meets its contract: the room is looked at first, and then the sizes.
+use Prim.Native.Nat.{_<_}
+use mathlib.Core.Bool.{false}
+use mathlib.Core.Path.{_≡_, refl, ap, sym, _∙_}
+use native.Mathlib.Omega.{arith}
 use borrow.Author.Needs.{needs}
+use borrow.Author.Tests.{ltb-true}
+use denote.Ref.{now}
+use Rattle.protocol.specs.Fields.{most, signedCount}
+use Rattle.protocol.specs.Kinds.{dataRow}
+use Rattle.protocol.proofs.Basics.{and-left, and-right}
+use Rattle.writers.specs.Writing.{verdictOf}
+use Rattle.row_builder.specs.Building.{builtBy, growOf}
+use Rattle.row_builder.proofs.Standing.{Fits, fits}
 use Rattle.row_builder.proofs.grown.Statement.{statement}
 use Rattle.row_builder.proofs.grown.Tie as tie
-use Rattle.row_builder.proofs.grown.Reads as reads
-use Rattle.row_builder.proofs.grown.Lts as lts
-use Rattle.row_builder.proofs.row_of.Reads as row-of-reads
-use Rattle.row_builder.proofs.stands.Reads as stands-reads
-use Rattle.writers.proofs.verdict.Reads as verdict-reads
 
--- src/lib.rt:74:16
-stands-requires : tie.Need-stands-requires
-stands-requires c κs = search needs
+abbrev start : tie.Then1 → tie.Start
+start c = c .before .before .before .before
 
--- src/lib.rt:76:23
+few : (c : tie.Then1) → start c .args .row .columns < most signedCount
+few c = ltb-true _ _ (and-right (c .before .before .stands .result) (c .if1 .taken))
+
+stood : (c : tie.Then1) → Fits (start c .args .row) (now (start c .args .room))
+stood c = fits _ _ (sym (c .before .before .stands .ensures) ∙ and-left _ _ (c .if1 .taken))
+
 add-row-of : tie.Need-add-row-of
-add-row-of c = ?
+add-row-of c = let h = few (c .before) in omega arith
 
--- src/lib.rt:76:61
 sub-verdict : tie.Need-sub-verdict
-sub-verdict c = ?
+sub-verdict c = omega (arith, stood (c .before .before) .some)
 
--- src/lib.rt:76:61
 add-verdict : tie.Need-add-verdict
-add-verdict c = ?
+add-verdict c = let t = c .before .before in omega (arith, stood t .small, start t .pre)
 
--- src/lib.rt:76:40
-verdict-requires : tie.Need-verdict-requires
-verdict-requires c κs = search needs
-
--- src/lib.rt:76:9
-row-of-requires : tie.Need-row-of-requires
-row-of-requires c κs = search needs
-
--- src/lib.rt:76:9
 returns : tie.Need-returns
-returns c = ?
+unfolding growOf dataRow
+returns c =
+    let v = c .before in
+    let s = v .before .before .before .before .before in
+    c .row-of .ensures ∙ ap (builtBy _) (v .verdict .ensures ∙ rw (s .stands .ensures) refl)
 
--- src/lib.rt:71:1
 returns-2 : tie.Need-returns-2
-returns-2 c = ?
+unfolding growOf verdictOf builtBy
+returns-2 c = rw (← c .before .before .stands .ensures, c .if1 .left) refl
 
 pub grown-spec : {M : Type 1} → statement M
 grown-spec =
     tie.close
     (tie.spec
-    stands-requires
+    (λ c κs. search needs)
     add-row-of
     sub-verdict
     add-verdict
-    verdict-requires
-    row-of-requires
+    (λ c κs. search needs)
+    (λ c κs. search needs)
     returns
     returns-2)

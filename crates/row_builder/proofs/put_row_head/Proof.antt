@@ -1,31 +1,24 @@
+-- `row_builder::put_row_head` meets its contract: the head of a frame, and the count behind it.
+use mathlib.Core.Path.{refl}
+use native.Mathlib.Omega.{arith}
 use borrow.Author.Needs.{needs}
+use Rattle.protocol.specs.Kinds.{dataRow}
+use Rattle.writers.proofs.Laws.{_then_}
+use Rattle.writers.proofs.Puts.{headed, same-size}
+use Rattle.row_builder.specs.Building.{headOf}
 use Rattle.row_builder.proofs.put_row_head.Statement.{statement}
 use Rattle.row_builder.proofs.put_row_head.Tie as tie
-use Rattle.row_builder.proofs.put_row_head.Reads as reads
-use Rattle.row_builder.proofs.put_row_head.Lts as lts
-use Rattle.writers.proofs.put_half.Reads as put-half-reads
-use Rattle.writers.proofs.put_head.Reads as put-head-reads
 
--- src/lib.rt:112:9
-put-head-requires : tie.Need-put-head-requires
-put-head-requires c κs = search needs
-
--- src/lib.rt:113:24
-cast-put-half : tie.Need-cast-put-half
-cast-put-half c = search needs
-
--- src/lib.rt:113:5
-put-half-requires : tie.Need-put-half-requires
-put-half-requires c κs = search needs
-
--- src/lib.rt:108:1
-same-length : tie.Need-same-length
-same-length c = search needs
-
--- src/lib.rt:108:1
 returns : tie.Need-returns
-returns c = ?
+unfolding headOf dataRow
+returns c =
+    let p = c .before .before in
+    let h = p .before .before .before .before .before in
+    let s = h .before .before .before in
+    let head = headed (h .put-head .ensures) (omega (arith, s .pre .0)) (s .pre .1) (s .pre .2) in
+    let count = p .put-half .ensures .fits refl (omega (arith, s .pre, head .place, same-size head)) in
+    (head then count) .bytes
 
 pub put-row-head-spec : {M : Type 1} → statement M
 put-row-head-spec =
-    tie.close (tie.spec put-head-requires cast-put-half put-half-requires same-length returns)
+    tie.close (tie.spec (λ c κs. search needs) (λ c. search needs) (λ c κs. search needs) (λ c. search needs) returns)

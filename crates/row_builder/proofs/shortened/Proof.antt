@@ -1,47 +1,42 @@
+-- `row_builder::shortened` meets its contract: the room is looked at first, and then the last column is looked for.
+use mathlib.Core.Path.{refl, sym, _∙_}
 use borrow.Author.Needs.{needs}
+use borrow.Author.Tests.{ne-eqb}
+use lib.Seq.{length-take-le}
+use Rattle.row_builder.specs.Building.{dropOf}
+use Rattle.row_builder.proofs.Standing.{fits}
 use Rattle.row_builder.proofs.shortened.Statement.{statement}
 use Rattle.row_builder.proofs.shortened.Tie as tie
-use Rattle.row_builder.proofs.shortened.Reads as reads
-use Rattle.row_builder.proofs.shortened.Lts as lts
-use Rattle.row_builder.proofs.columns_end.Reads as columns-end-reads
-use Rattle.row_builder.proofs.stands.Reads as stands-reads
 
--- src/lib.rt:96:8
-stands-requires : tie.Need-stands-requires
-stands-requires c κs = search needs
-
--- src/lib.rt:98:13
 returns : tie.Need-returns
-returns c = ?
+unfolding dropOf
+returns c =
+    let t = c .before .before in
+    rw (sym (t .before .stands .ensures) ∙ t .if1 .taken, c .if2 .taken) refl
 
--- src/lib.rt:100:23
-sub-columns : tie.Need-sub-columns
-sub-columns c = search needs
-
--- src/lib.rt:101:41
 slice-aggregate-columns-end : tie.Need-slice-aggregate-columns-end
-slice-aggregate-columns-end c = ?
+slice-aggregate-columns-end c =
+    let t = c .before .before .before .before in
+    sym (length-take-le _ _ (fits _ _ (sym (t .before .stands .ensures) ∙ t .if1 .taken) .within))
 
--- src/lib.rt:101:13
-columns-end-requires : tie.Need-columns-end-requires
-columns-end-requires c κs = search needs
-
--- src/lib.rt:102:9
 returns-2 : tie.Need-returns-2
-returns-2 c = ?
+unfolding dropOf
+returns-2 c =
+    let t = c .before .before .before .before .before in
+    rw (sym (t .before .stands .ensures) ∙ t .if1 .taken, ne-eqb _ _ (c .before .before .before .if2 .left), ← c .columns-end .ensures) refl
 
--- src/lib.rt:93:1
 returns-3 : tie.Need-returns-3
-returns-3 c = ?
+unfolding dropOf
+returns-3 c = rw (sym (c .before .stands .ensures) ∙ c .if1 .left) refl
 
 pub shortened-spec : {M : Type 1} → statement M
 shortened-spec =
     tie.close
     (tie.spec
-    stands-requires
+    (λ c κs. search needs)
     returns
-    sub-columns
+    (λ c. search needs)
     slice-aggregate-columns-end
-    columns-end-requires
+    (λ c κs. search needs)
     returns-2
     returns-3)
