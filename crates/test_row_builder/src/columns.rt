@@ -1,5 +1,6 @@
 // The most columns, 32,767. As many NULLs have a frame of 7 + 4 * 32,767 = 131,075 bytes, and one fewer 131,071. To build these by calls would take
 // long, as each call passes over every column: a row of 32,766 is encoded, and its numbers are the row, as 32,766 calls would give it.
+use crate::calls;
 use crate::long;
 use protocol::Decoded;
 use protocol::Message;
@@ -41,8 +42,8 @@ fn put_nulls(room: &mut [u8]) {
     write(b"\n");
 }
 
-// The last column that there may be, and one more, which is refused before its length is looked at; and again after a drop.
-fn history(room: &mut [u8]) {
+// The last column that there may be. One more is refused before its length is looked at.
+fn filled(room: &mut [u8]) -> Row {
     let row = Row {
         columns: 32766,
         size: 131071,
@@ -54,6 +55,11 @@ fn history(room: &mut [u8]) {
     let row = long::append(row, room, 1);
     let row = long::append(row, room, 1048567);
     long::finish(row, room);
+    row
+}
+
+// After a drop there may be one more again.
+fn drop_and_append(row: Row, room: &mut [u8]) {
     let row = long::drop_last(row, room);
     let row = long::append(row, room, 1);
     write_decoded(room);
@@ -63,14 +69,15 @@ fn history(room: &mut [u8]) {
 
 fn full_row(room: &mut [u8]) {
     put_nulls(room);
-    history(room);
+    let row = filled(room);
+    drop_and_append(row, room);
 }
 
 // In as many bytes as are lent.
 fn full_row_in(lent: usize) {
-    let mut room = long::spare();
+    let mut room = long::full(calls::SPARE);
     if lent <= long::ROOM {
-        full_row(&mut room[..lent]);
+        full_row(&mut room[0..lent]);
     }
 }
 

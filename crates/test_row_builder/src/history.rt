@@ -85,7 +85,7 @@ fn call_in(name: u8, kept: Kept, room: &mut [u8], value: &[u8]) -> Kept {
     if room.len() < lent {
         return malformed(kept);
     }
-    let row = call(name, kept.row, &mut room[..lent], value);
+    let row = call(name, kept.row, &mut room[0..lent], value);
     write(b"; ");
     Kept { lent, row }
 }

@@ -1,5 +1,6 @@
 // The limit of a row's length, 1,048,576, which is 00 10 00 00: its frame has 1,048,577 bytes. A row of one value of n bytes has the length
 // 4 + 2 + 4 + n, so the limit is reached with n = 1,048,566 (00 0F FF F6); and with n = 1,048,562 (00 0F FF F2) and 4 bytes more, NULL or an empty value.
+use crate::calls;
 use crate::long;
 use row_builder::Row;
 use test_cases::write;
@@ -26,9 +27,9 @@ fn by_value(room: &mut [u8]) {
 
 // In as many bytes as are lent.
 fn by_value_in(lent: usize) {
-    let mut room = long::spare();
+    let mut room = long::full(calls::SPARE);
     if lent <= long::ROOM {
-        by_value(&mut room[..lent]);
+        by_value(&mut room[0..lent]);
     }
 }
 
@@ -45,26 +46,35 @@ fn forged(room: &mut [u8]) {
     long::finish(row, room);
 }
 
-// NULL and an empty value that reach the limit; then each one byte above it.
-fn by_null(room: &mut [u8]) {
-    write_title(b"the limit by NULL", room);
+// NULL reaches the limit, and another is refused; an empty value reaches it too.
+fn null_at_limit(room: &mut [u8]) -> Row {
     let row = long::begin(room);
     let row = long::append(row, room, 1048562);
     let row = long::append_null(row, room);
     let row = long::append_null(row, room);
     let row = long::drop_last(row, room);
-    let row = long::append(row, room, 0);
+    long::append(row, room, 0)
+}
+
+// With one byte more in the first column both are above it.
+fn null_above_limit(row: Row, room: &mut [u8]) {
     let row = long::drop_last(row, room);
     let row = long::drop_last(row, room);
     let row = long::append(row, room, 1048563);
     let row = long::append_null(row, room);
     let row = long::append(row, room, 0);
     long::finish(row, room);
+}
+
+fn by_null(room: &mut [u8]) {
+    write_title(b"the limit by NULL", room);
+    let row = null_at_limit(room);
+    null_above_limit(row, room);
     forged(room);
 }
 
 fn by_null_in_all() {
-    let mut room = long::spare();
+    let mut room = long::full(calls::SPARE);
     by_null(&mut room);
 }
 

@@ -3,20 +3,22 @@
 ghost use Prim.Native.Nat.{_+_};
 ghost use mathlib.Core.Path.{_≡_};
 ghost use lib.ListN.{length};
+ghost use Rattle.protocol.specs.Kinds.{largeFrame};
 use crate::calls;
 use crate::calls::SPARE;
+use protocol::kinds::LARGE_FRAME;
 use row_builder::Row;
 use test_cases::write;
 use test_cases::write_number;
 
-// Room for the longest frame, which has 1,048,577 bytes, and 15 more.
-pub const ROOM: usize = 1048592;
+// Room for the longest frame and 15 bytes more.
+pub const ROOM: usize = LARGE_FRAME + 15;
 
 // The length is said, so that a part can be lent.
-pub fn spare() -> [u8; ROOM]
-    ensures { λ r. ⌜ 1048592 ≡ length r ⌝ }
+pub fn full(byte: u8) -> [u8; ROOM]
+    ensures { λ r. ⌜ 15 + largeFrame ≡ length r ⌝ }
 {
-    [SPARE; ROOM]
+    [byte; ROOM]
 }
 
 // How many bytes are as they were before the first call.
@@ -63,7 +65,7 @@ pub fn begin(room: &mut [u8]) -> Row {
 
 // A value of so many letters a.
 pub fn append(row: Row, room: &mut [u8], count: usize) -> Row {
-    let letters = [b'a'; ROOM];
+    let letters = full(b'a');
     write(b"value of ");
     write_number(count);
     write(b": ");
