@@ -137,6 +137,7 @@ fn answer_lines(input: &[u8], room: &mut [u8]) {
     }
 }
 
+// No history uses a room that another left: each begins with a new one.
 pub fn answer_each(input: &[u8]) {
     let mut room = [calls::SPARE; ROOM];
     answer_lines(input, &mut room);
