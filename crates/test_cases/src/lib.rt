@@ -1,5 +1,7 @@
 // What the test programs share: words and numbers on standard output, bytes in hexadecimal digits, and the lines of an input.
 // It is no part of the library. That its functions are safe and end is proved; what they write is compared when the programs are run.
+pub mod head;
+
 ghost use Prim.Native.Nat.{_≤_, min};
 ghost use lib.ListN.{length};
 use libc::STDOUT_FILENO;

@@ -21,7 +21,7 @@ fn answer(name: u8, first: usize, second: usize, frame: &[u8]) {
 }
 
 fn answer_case(name: u8, line: &[u8]) {
-    let head = case::read_head(line);
+    let head = test_cases::head::read_head(line);
     let end = head.end;
     let mut room = [0u8; case::ROOM];
     match test_cases::read_bytes(&line[end..], &mut room) {

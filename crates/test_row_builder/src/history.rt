@@ -1,10 +1,10 @@
 // Histories in text: each line is a call, or changes between two calls what the caller keeps. It is written back with the answer and every byte of
 // the room that is lent.
 use crate::calls;
-use crate::case;
-use crate::case::Head;
 use row_builder::Row;
 use test_cases::Bytes;
+use test_cases::head::Head;
+use test_cases::head::read_head;
 use test_cases::write;
 
 // The longest room.
@@ -98,7 +98,7 @@ fn answer(name: u8, head: Head, kept: Kept, room: &mut [u8], bytes: &[u8]) -> Ke
 }
 
 fn answer_case(name: u8, line: &[u8], kept: Kept, room: &mut [u8]) -> Kept {
-    let head = case::read_head(line);
+    let head = read_head(line);
     let end = head.end;
     let mut bytes = [0u8; ROOM];
     match test_cases::read_bytes(&line[end..], &mut bytes) {

@@ -1,4 +1,4 @@
-// A line in text: its name, numbers in decimal digits, a colon, then for each byte a space and two hexadecimal digits in upper case.
+// A line's head in text: its name, numbers in decimal digits, a colon, then for each byte a space and two hexadecimal digits in upper case.
 
 ghost use Prim.Native.Nat.{_≤_};
 ghost use lib.ListN.{length};

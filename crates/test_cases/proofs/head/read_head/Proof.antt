@@ -1,9 +1,9 @@
--- `test_row_builder::case::read_head` meets its contract.
+-- `test_cases::head::read_head` meets its contract.
 use Prim.Native.Nat.{_-_, _≤_}
 use lib.ListN.{length}
 use borrow.Author.Needs.{needs}
-use Rattle.test_row_builder.proofs.case.read_head.Statement.{statement}
-use Rattle.test_row_builder.proofs.case.read_head.Tie as tie
+use Rattle.test_cases.proofs.head.read_head.Statement.{statement}
+use Rattle.test_cases.proofs.head.read_head.Tie as tie
 
 abbrev Inv-loop : tie.InvT-loop
 Inv-loop line first₀ second₀ end₀ first second end = end ≤ length line
