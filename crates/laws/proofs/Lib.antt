@@ -29,3 +29,6 @@ pub mod RowAnswers
 pub mod Steps
 pub mod Only
 pub mod Rejected
+pub mod Columns
+pub mod Standing
+pub mod Building
