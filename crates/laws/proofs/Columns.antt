@@ -2,24 +2,27 @@
 use Prim.Native.Nat.{ℕ, suc, _+_, _-_, _≤_, _<_}
 use mathlib.Core.Bool.{Bool, true, false, cond, _&&_, and-true}
 use mathlib.Core.List.{List, [], _∷_, _++_, append-nil, append-assoc}
+use mathlib.Core.Logic.{_↔_, inl, inr}
 use mathlib.Core.Option.{Option, some, none}
 use mathlib.Core.Path.{_≡_, refl, ap, sym, _∙_}
 use native.Mathlib.Omega.{arith}
+use borrow.Author.Tests.{leb-true, le-leb}
 use lib.Dec.{leb}
 use lib.ListN.{length, length-append}
 use Rattle.protocol.specs.Bytes.{be}
-use Rattle.protocol.specs.Each.{bytesOfEach, ableEach}
+use Rattle.protocol.specs.Each.{bytesOfEach, ableEach, HoldsEach}
 use Rattle.protocol.specs.Encode.{items, encodedBy}
-use Rattle.protocol.specs.Fields.{valueBytes, atomAble, atomBytes, itemAble, itemBytes, itemsBytes, itemsAble, able, bytes, most, signedCount}
-use Rattle.protocol.specs.Kinds.{backend, dataRow, nullable, typed}
+use Rattle.protocol.specs.Fields.{ValueInRange, AtomInRange, atomAble, valueBytes, atomBytes, ItemInRange, itemAble, itemBytes, itemsBytes, ItemsInRange, itemsAble, most, signedCount, InRange, able, bytes}
+use Rattle.protocol.specs.Kinds.{typed, large, nullable, dataRow, backend, modes, the-table, IsIn, find, kindIn}
 use Rattle.protocol.specs.Rules.{rulesOf}
-use Rattle.protocol.specs.WellFormed.{bodyBytes, header, frame, allAble}
+use Rattle.protocol.specs.WellFormed.{bodyBytes, header, frame, AllInRange, allAble, WellFormed}
 use Rattle.row_builder.specs.Building.{headOf}
 use Rattle.row_builder.specs.declared.Row.{Row}
 use Rattle.writers.specs.Writing.{verdictOf}
 use Rattle.laws.specs.BuilderStatements.{Column, rowOf, rowFrame}
 use Rattle.laws.proofs.Complete.{header-long}
 use Rattle.laws.proofs.Numbers.{length-be}
+use Rattle.laws.proofs.Table.{kind-found}
 
 -- ---- columns as items
 
@@ -37,7 +40,7 @@ values-snoc [] c = simp append-nil
 values-snoc (x ∷ cs) c = rw (values-snoc cs c, append-assoc (valueBytes x ++ []) (valuesOf cs) (valueBytes c)) refl
 
 -- each can be written
-values-able : (cs : List Column) → itemsAble (rulesOf 1) nullable (items cs) ≡ true
+pub values-able : (cs : List Column) → itemsAble (rulesOf 1) nullable (items cs) ≡ true
 unfolding itemsAble itemAble ableEach atomAble
 values-able [] = refl
 values-able (c ∷ cs) = values-able cs
@@ -80,3 +83,46 @@ row-encoded cs room =
     let size : 4 + length (bodyBytes dataRow (rowOf cs)) ≡ 6 + length (valuesOf cs) = omega (arith, body-long cs) in
     let whole : length (rowFrame cs) ≡ 6 + length (valuesOf cs) + 1 = omega (arith, frame-long cs) in
     rw (able-few cs, size, whole) refl
+
+-- ---- when the frame is well formed
+
+in-range : (cs : List Column) → AllInRange dataRow (rowOf cs) ↔ ItemsInRange nullable (items cs)
+unfolding dataRow rowOf HoldsEach InRange
+in-range cs = (λ h. h .0, λ h. (h, tt))
+
+pub record Right (cs : List Column) : Type 0 where
+  pub inRange : ItemsInRange nullable (items cs)
+  pub few : length cs ≤ most signedCount
+  pub small : 6 + length (valuesOf cs) ≤ large
+
+pub right : {cs : List Column} → WellFormed (rulesOf 1) backend dataRow (rowOf cs) → Right cs
+unfolding backend dataRow
+right {cs} w = record {
+  inRange = in-range cs .0 (w .inRange);
+  few = leb-true _ _ (sym (able-few cs) ∙ w .writable);
+  small = omega (arith, w .withinLimit, body-long cs);
+}
+
+pub backend-in : IsIn backend modes
+backend-in = inr (inl refl)
+
+row-kind : IsIn dataRow (backend .kinds)
+unfolding the-table find kindIn
+row-kind = kind-found backend backend-in (dataRow .tag) dataRow .0 refl .0
+
+pub well : {cs : List Column} → Right cs → WellFormed (rulesOf 1) backend dataRow (rowOf cs)
+unfolding backend dataRow
+well {cs} r = record {
+  known = backend-in;
+  mode = refl;
+  kind = row-kind;
+  inRange = in-range cs .1 (r .inRange);
+  writable = able-few cs ∙ le-leb _ _ (r .few);
+  withinLimit = omega (arith, r .small, body-long cs);
+}
+
+-- one column more, and one fewer
+pub range-snoc : (cs : List Column) (c : Column) → ItemsInRange nullable (items (cs ++ c ∷ [])) ↔ (ItemsInRange nullable (items cs) × ValueInRange c)
+unfolding ItemsInRange ItemInRange HoldsEach AtomInRange
+range-snoc [] c = (λ h. (tt, h .0 .0), λ h. ((h .1, tt), tt))
+range-snoc (x ∷ cs) c = let r = range-snoc cs c in (λ h. ((h .0, r .0 (h .1) .0), r .0 (h .1) .1), λ h. (h .0 .0, r .1 (h .0 .1, h .1)))

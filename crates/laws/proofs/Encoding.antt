@@ -42,19 +42,19 @@ yes a b = (λ _. b, λ _. a)
 pub no : {A B : Type 0} → (A → ⊥) → (B → ⊥) → A ↔ B
 no a b = (λ h. absurd (a h), λ h. absurd (b h))
 
-through : {A B C : Type 0} → A ↔ B → B ↔ C → A ↔ C
+pub through : {A B C : Type 0} → A ↔ B → B ↔ C → A ↔ C
 through f g = (λ a. g .0 (f .0 a), λ c. f .1 (g .1 c))
 
 -- an answer's case, by what it is set out as
-says-refused : {r : Encoded} {number place : ℕ} → (ofEncoded r ≡ refusal number place) ↔ (r ≡ N.Refused number place)
+pub says-refused : {r : Encoded} {number place : ℕ} → (ofEncoded r ≡ refusal number place) ↔ (r ≡ N.Refused number place)
 unfolding ofEncoded
 says-refused = (encoded-refused, λ e. rw e refl)
 
-says-done : {r : Encoded} {n : ℕ} → (ofEncoded r ≡ success tt n) ↔ (r ≡ N.Done n)
+pub says-done : {r : Encoded} {n : ℕ} → (ofEncoded r ≡ success tt n) ↔ (r ≡ N.Done n)
 unfolding ofEncoded
 says-done = (is-done, λ e. rw e refl)
 
-le-exactly : (a b : ℕ) → (a ≤ b) ↔ (ltb b a ≡ false)
+pub le-exactly : (a b : ℕ) → (a ≤ b) ↔ (ltb b a ≡ false)
 le-exactly a b = (le-ltb _ _, ltb-false _ _)
 
 other : (a b : ℕ) → (a ≡ b → ⊥) → (p q : ℕ) → N.Refused a p ≡ N.Refused b q → ⊥
@@ -79,13 +79,13 @@ judge-says true true short n = four
 judge-says true false true n = nine
 judge-says true false false n = done n
 
-record Judged (A B C : Type 0) (r : Encoded) (n : ℕ) : Type 0 where
-  ten : (r ≡ N.Refused notRepresentable 0) ↔ (A → ⊥)
-  four : (r ≡ N.Refused lengthAboveLimit 0) ↔ (A × (B → ⊥))
-  nine : (r ≡ N.Refused outputTooShort 0) ↔ (A × B × (C → ⊥))
-  done : (j : ℕ) → (r ≡ N.Done j) ↔ ((A × B × C) × (j ≡ n))
+pub record Judged (A B C : Type 0) (r : Encoded) (n : ℕ) : Type 0 where
+  pub ten : (r ≡ N.Refused notRepresentable 0) ↔ (A → ⊥)
+  pub four : (r ≡ N.Refused lengthAboveLimit 0) ↔ (A × (B → ⊥))
+  pub nine : (r ≡ N.Refused outputTooShort 0) ↔ (A × B × (C → ⊥))
+  pub done : (j : ℕ) → (r ≡ N.Done j) ↔ ((A × B × C) × (j ≡ n))
 
-judged : (able long short : Bool) (n : ℕ) (A B C : Type 0) → A ↔ (able ≡ true) → B ↔ (long ≡ false) → C ↔ (short ≡ false) → Judged A B C (judge able long short n) n
+pub judged : (able long short : Bool) (n : ℕ) (A B C : Type 0) → A ↔ (able ≡ true) → B ↔ (long ≡ false) → C ↔ (short ≡ false) → Judged A B C (judge able long short n) n
 judged false long short n A B C a b c =
     let not : A → ⊥ = λ h. false≢true (a .0 h) in
     record {

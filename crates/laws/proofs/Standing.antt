@@ -2,7 +2,6 @@
 use Prim.Native.Nat.{ℕ}
 use mathlib.Core.Bool.{Bool, true, false, _&&_, false≢true}
 use mathlib.Core.List.{List, [], _∷_, _++_, map}
-use mathlib.Core.Logic.{inl, inr}
 use mathlib.Core.Option.{Option, some, none}
 use mathlib.Core.Path.{_≡_, refl, ap, sym, subst, _∙_}
 use borrow.Author.Tests.{eqb-true, eq-eqb}
@@ -33,7 +32,7 @@ use Rattle.row_builder.specs.declared.Row.{Row}
 use Rattle.laws.specs.BuilderStatements.{Column, rowOf, rowFrame, Stands, Standing}
 use Rattle.laws.specs.Statements.{Accepted}
 use Rattle.laws.proofs.Answered.{recorded}
-use Rattle.laws.proofs.Columns.{length-items}
+use Rattle.laws.proofs.Columns.{length-items, backend-in}
 use Rattle.laws.proofs.Complete.{complete}
 use Rattle.laws.proofs.Items.{both}
 use Rattle.laws.proofs.Sound.{sound}
@@ -77,9 +76,6 @@ made-of m k c i j r e =
     sym (ap (λ (v : View). v .kind) v) ∙ ap (λ (r : Message). view r .kind) (sym e)
 
 -- and of the mode
-backend-in : IsIn backend modes
-backend-in = inr (inl refl)
-
 backend-is : (m : Mode) → IsIn m modes → m .mode ≡ 1 → m ≡ backend
 unfolding backend
 backend-is m i e =
