@@ -28,7 +28,7 @@ use Rattle.writers.proofs.Laws.{front}
 use Rattle.laws.specs.BuilderStatements.{Outcome, Column, rowOf, rowFrame, Stands, theBuilder, encoded, BuildsAsEncoded}
 use Rattle.laws.specs.EncodeStatements.{theEncoder}
 use Rattle.laws.proofs.Columns.{length-items, valuesOf, values-snoc, values-able, stored, frame-long, frame-is, head-long, row-encoded, Right, right, range-snoc}
-use Rattle.laws.proofs.Encoding.{Judged, judged, le-exactly}
+use Rattle.laws.proofs.Encoding.{same, through, le-exactly, Judged, judged}
 use Rattle.laws.proofs.Items.{pass-back}
 use Rattle.laws.proofs.Standing.{at-front, stands-true}
 
@@ -55,14 +55,12 @@ laid cs g t n l e =
     ap (λ (i : ℕ). write (g ++ (valuesOf cs ++ t)) 0 (headOf (record { columns = length cs; size = i }))) e
     ∙ head-over h g (valuesOf cs ++ t) (head-long (stored cs) ∙ sym l) ∙ sym (append-assoc h (valuesOf cs) t) ∙ ap (λ (f : List ℕ). f ++ t) (sym (frame-is cs))
 
--- the verdict's tests
-judged-row : (able : Bool) (limit size uncounted room : ℕ) → Judged (able ≡ true) (size ≤ limit) (size + uncounted ≤ room) (verdictOf able limit size uncounted room) (size + uncounted)
+-- the verdict, by its tests
+pub judged-row : (able : Bool) (limit size uncounted room : ℕ) (A B C : Type 0) → A ↔ (able ≡ true) → (A → B ↔ (size ≤ limit)) → (A → C ↔ (size + uncounted ≤ room)) → Judged A B C (verdictOf able limit size uncounted room) (size + uncounted)
 unfolding verdictOf
-judged-row able limit size uncounted room =
-    judged able (ltb limit size) (ltb room (size + uncounted)) (size + uncounted) _ _ _ (yes-same) (le-exactly size limit) (le-exactly (size + uncounted) room)
-  where
-    yes-same : (able ≡ true) ↔ (able ≡ true)
-    yes-same = (λ h. h, λ h. h)
+judged-row able limit size uncounted room A B C a b c =
+    judged able (ltb limit size) (ltb room (size + uncounted)) (size + uncounted) A B C a
+    (λ h. through (b h) (le-exactly size limit)) (λ h. through (c h) (le-exactly (size + uncounted) room))
 
 -- what success of an encoder says
 abbrev pub verdict : List Column → List ℕ → Encoded
@@ -78,7 +76,7 @@ pub fits : (cs : List Column) (room : List ℕ) (n : ℕ) → (verdict cs room �
 unfolding dataRow
 fits cs room n =
     let e = row-encoded cs (length room) in
-    let j = judged-row (leb (length cs) (most signedCount)) large (6 + length (valuesOf cs)) 1 (length room) .done n in
+    let j = judged-row (leb (length cs) (most signedCount)) large (6 + length (valuesOf cs)) 1 (length room) _ _ _ same (λ _. same) (λ _. same) .done n in
     (
       λ d. let w = j .0 (sym e ∙ d) in record { few = leb-true _ _ (w .0 .0); small = w .0 .1; there = omega (arith, w .0 .2, frame-long cs); size = omega (arith, w .1, frame-long cs) },
       λ f. e ∙ j .1 ((le-leb _ _ (f .few), f .small, omega (arith, f .there, frame-long cs)), omega (arith, f .size, frame-long cs)),

@@ -42,6 +42,9 @@ yes a b = (λ _. b, λ _. a)
 pub no : {A B : Type 0} → (A → ⊥) → (B → ⊥) → A ↔ B
 no a b = (λ h. absurd (a h), λ h. absurd (b h))
 
+pub same : {A : Type 0} → A ↔ A
+same = (λ a. a, λ a. a)
+
 pub through : {A B C : Type 0} → A ↔ B → B ↔ C → A ↔ C
 through f g = (λ a. g .0 (f .0 a), λ c. f .1 (g .1 c))
 
@@ -85,7 +88,7 @@ pub record Judged (A B C : Type 0) (r : Encoded) (n : ℕ) : Type 0 where
   pub nine : (r ≡ N.Refused outputTooShort 0) ↔ (A × B × (C → ⊥))
   pub done : (j : ℕ) → (r ≡ N.Done j) ↔ ((A × B × C) × (j ≡ n))
 
-pub judged : (able long short : Bool) (n : ℕ) (A B C : Type 0) → A ↔ (able ≡ true) → B ↔ (long ≡ false) → C ↔ (short ≡ false) → Judged A B C (judge able long short n) n
+pub judged : (able long short : Bool) (n : ℕ) (A B C : Type 0) → A ↔ (able ≡ true) → (A → B ↔ (long ≡ false)) → (A → C ↔ (short ≡ false)) → Judged A B C (judge able long short n) n
 judged false long short n A B C a b c =
     let not : A → ⊥ = λ h. false≢true (a .0 h) in
     record {
@@ -96,7 +99,7 @@ judged false long short n A B C a b c =
     }
 judged true true short n A B C a b c =
     let is : A = a .1 refl in
-    let not : B → ⊥ = λ h. false≢true (sym (b .0 h)) in
+    let not : B → ⊥ = λ h. false≢true (sym (b is .0 h)) in
     record {
       ten = no (other 4 10 (λ e. omega arith) 0 0) (λ h. h is);
       four = yes refl (is, not);
@@ -105,8 +108,8 @@ judged true true short n A B C a b c =
     }
 judged true false true n A B C a b c =
     let is : A = a .1 refl in
-    let fits : B = b .1 refl in
-    let not : C → ⊥ = λ h. false≢true (sym (c .0 h)) in
+    let fits : B = b is .1 refl in
+    let not : C → ⊥ = λ h. false≢true (sym (c is .0 h)) in
     record {
       ten = no (other 9 10 (λ e. omega arith) 0 0) (λ h. h is);
       four = no (other 9 4 (λ e. omega arith) 0 0) (λ h. h .1 fits);
@@ -115,8 +118,8 @@ judged true false true n A B C a b c =
     }
 judged true false false n A B C a b c =
     let is : A = a .1 refl in
-    let fits : B = b .1 refl in
-    let room : C = c .1 refl in
+    let fits : B = b is .1 refl in
+    let room : C = c is .1 refl in
     record {
       ten = no (done-not 10 0 n) (λ h. h is);
       four = no (done-not 4 0 n) (λ h. h .1 fits);
@@ -148,16 +151,16 @@ module _ (m : Mode) (k : Kind) where
   verdict c out =
       judged (canBe c) (ltb (k .limit) (word c)) (ltb (length out) (size c)) (size c) _ _ _
       (given-is (λ x. canBe x ≡ true) c)
-      (through (given-is (λ x. word x ≤ k .limit) c) (le-exactly (word c) (k .limit)))
-      (through (given-is (λ x. size x ≤ length out) c) (le-exactly (size c) (length out)))
+      (λ _. through (given-is (λ x. word x ≤ k .limit) c) (le-exactly (word c) (k .limit)))
+      (λ _. through (given-is (λ x. size x ≤ length out) c) (le-exactly (size c) (length out)))
 
   verdict-none : (out : List ℕ) → Judged (Representable m k none) (WithinLimit m k none) (HasRoom m k none out) (theEncoder m k none out .answer) 0
   unfolding encodedBy
   verdict-none out =
       judged false true true 0 _ _ _
       (no (given-none (λ x. canBe x ≡ true)) false≢true)
-      (no (given-none (λ x. word x ≤ k .limit)) (λ e. false≢true (sym e)))
-      (no (given-none (λ x. size x ≤ length out)) (λ e. false≢true (sym e)))
+      (λ _. no (given-none (λ x. word x ≤ k .limit)) (λ e. false≢true (sym e)))
+      (λ _. no (given-none (λ x. size x ≤ length out)) (λ e. false≢true (sym e)))
 
   -- success says the size of what is written, and writes the frame
   wrote : (c : Contents k) (out : List ℕ) (n : ℕ) → theEncoder m k (some c) out .answer ≡ N.Done n → (n ≡ size c) × (theEncoder m k (some c) out .output ≡ frame (m .envelope) k c ++ drop n out)

@@ -32,3 +32,4 @@ pub mod Rejected
 pub mod Columns
 pub mod Standing
 pub mod Building
+pub mod BuilderExactly
