@@ -76,7 +76,7 @@ pub data Says : Encoded → Type 0 where
   nine : Says (N.Refused outputTooShort 0)
   done : (n : ℕ) → Says (N.Done n)
 
-judge-says : (able long short : Bool) (n : ℕ) → Says (judge able long short n)
+pub judge-says : (able long short : Bool) (n : ℕ) → Says (judge able long short n)
 judge-says false long short n = ten
 judge-says true true short n = four
 judge-says true false true n = nine

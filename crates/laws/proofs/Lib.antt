@@ -33,3 +33,5 @@ pub mod Columns
 pub mod Standing
 pub mod Building
 pub mod BuilderExactly
+pub mod Histories
+pub mod OneBuilder
