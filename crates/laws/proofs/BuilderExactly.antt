@@ -1,27 +1,27 @@
 -- Each answer of the builder, of any stored numbers and any bytes; and that a refused call leaves the room, row and columns.
 use Prim.Native.Nat.{ℕ, _+_, _-_, _≤_, _<_}
 use mathlib.Core.Bool.{Bool, true, false, cond, _&&_}
-use mathlib.Core.List.{List, [], _∷_, _++_}
+use mathlib.Core.List.{List}
 use mathlib.Core.Logic.{_↔_, _⊎_, inl, inr}
 use mathlib.Core.Path.{_≡_, refl, ap, sym, _∙_}
 use native.Mathlib.Omega.{arith}
 use borrow.Author.Tests.{ltb-true, ltb-false, lt-ltb, leb-true, leb-false, eqb-true, eqb-false}
 use lib.Dec.{ltb, leb, eqb}
-use lib.ListN.{length, take}
+use lib.ListN.{length}
 use Rattle.protocol.specs.declared.Encoded.the-variants as N
 use Rattle.protocol.specs.declared.Encoded.{Encoded}
-use Rattle.protocol.specs.Answers.{success, refusal, Unsuccessful, ofEncoded}
+use Rattle.protocol.specs.Answers.{success, refusal, Unsuccessful}
 use Rattle.protocol.specs.Bytes.{Bytes}
 use Rattle.protocol.specs.Fields.{valueBytes, most, signedCount}
 use Rattle.protocol.specs.Kinds.{largeFrame, dataRow}
-use Rattle.protocol.specs.Refusals.{lengthAboveLimit, outputTooShort, notRepresentable, noSuchElement}
+use Rattle.protocol.specs.Refusals.{notRepresentable, noSuchElement}
 use Rattle.protocol.proofs.Basics.{zero-one}
-use Rattle.row_builder.specs.Building.{stands, builtBy, ofBuilt, beginOf, growOf, appendOf, columnsEnd, dropOf, finishOf, leftBy}
+use Rattle.row_builder.specs.Building.{stands, builtBy, ofBuilt, beginOf, growOf, dropOf, finishOf, leftBy}
 use Rattle.row_builder.specs.declared.Built.the-variants as B
 use Rattle.row_builder.specs.declared.Built.{Built}
 use Rattle.row_builder.specs.declared.Row.{Row}
 use Rattle.writers.specs.Writing.{verdictOf}
-use Rattle.laws.specs.BuilderStatements.{Column, Standing, theBuilder, BuildsExactly, BuilderExactly, KeepsTheRoom, Call, append, dropLast, finish, LeavesAll}
+use Rattle.laws.specs.BuilderStatements.{Column, Standing, theBuilder, BuildsExactly, BuilderExactly, KeepsTheRoom, append, dropLast, finish, LeavesAll}
 use Rattle.laws.proofs.Answered.{built, built-refused, built-unsuccessful}
 use Rattle.laws.proofs.Building.{judged-row}
 use Rattle.laws.proofs.Columns.{frame-long}
@@ -103,6 +103,7 @@ module _ (row : Row) (room : List ℕ) (c : Column) (b : Bytes room) where
       by false u e f h = inl (not-standing row room e)
       by true true e f h = absurd (h (standing row room b e, ltb-true _ _ f))
       by true false e f h = inr (ltb-false _ _ f)
+
       back : (Standing row room → ⊥) ⊎ (most signedCount ≤ row .columns) → Grows → ⊥
       back (inl h) g = h (g .0)
       back (inr h) g = omega (arith, g .1)
@@ -144,8 +145,7 @@ module _ (row : Row) (room : List ℕ) (c : Column) (b : Bytes room) where
         appendNine = judged-no k
             (through (a .nine) (λ h. (h .0 .0, h .0 .1, h .1, not-le _ _ .0 (h .2)), λ h. ((h .0, h .1), h .2, not-le _ _ .1 (h .3))));
         appended = λ next.
-            through (judged-yes k a next)
-            (
+            through (judged-yes k a next) (
               λ h. (h .0 .0 .0, h .0 .0 .1, h .0 .1, h .0 .2, h .1 ∙ ap (λ (n : ℕ). record { columns = k; size = n }) (large-size (h .0 .0))),
               λ h. (((h .0, h .1), h .2, h .3), h .4 ∙ ap (λ (n : ℕ). record { columns = k; size = n }) (sym (large-size (h .0, h .1)))),
             );

@@ -1,31 +1,30 @@
 -- What a call of the builder answers, and what it leaves in the room, is what an encoder does with the columns that there are to be.
-use Prim.Native.Nat.{ℕ, zero, suc, _+_, _-_, _≤_, _<_}
-use mathlib.Core.Bool.{Bool, true, false, cond, _&&_}
-use mathlib.Core.List.{List, [], _∷_, _++_, append-nil, append-assoc}
+use Prim.Native.Nat.{ℕ, _+_, _-_, _≤_}
+use mathlib.Core.Bool.{Bool, true, false}
+use mathlib.Core.List.{List, [], _∷_, _++_, append-assoc}
 use mathlib.Core.Logic.{_↔_}
-use mathlib.Core.Option.{Option, some, none}
+use mathlib.Core.Option.{some}
 use mathlib.Core.Path.{_≡_, refl, ap, sym, _∙_}
 use native.Mathlib.Omega.{arith}
 use borrow.Author.Tests.{leb-true, leb-false, le-leb, le-ltb, lt-ltb, ne-eqb}
-use lib.Dec.{leb, ltb, eqb}
-use lib.ListN.{length, take, drop, set, length-append, length-drop, take-append-drop}
-use lib.Seq.{set-append-seam, take-append-seam, drop-append-seam, drop-at, drop-drop, length-take-le}
+use lib.Dec.{leb, ltb}
+use lib.ListN.{length, take, drop, length-append, length-drop, take-append-drop}
+use lib.Seq.{set-append-seam, drop-append-seam, drop-at, drop-drop, length-take-le}
 use Rattle.protocol.specs.declared.Encoded.the-variants as N
 use Rattle.protocol.specs.declared.Encoded.{Encoded}
 use Rattle.protocol.specs.Each.{leastOfEach}
 use Rattle.protocol.specs.Encode.{items, encodedBy, writtenBy}
 use Rattle.protocol.specs.Fields.{valueBytes, itemLeast, itemsBytes, most, signedCount}
-use Rattle.protocol.specs.Kinds.{typed, large, nullable, dataRow, backend}
+use Rattle.protocol.specs.Kinds.{large, nullable, dataRow, backend}
 use Rattle.protocol.specs.Reading.{got, passItems}
 use Rattle.protocol.specs.Rules.{rulesOf}
-use Rattle.protocol.specs.WellFormed.{frame}
-use Rattle.row_builder.specs.Building.{stands, builtBy, beginOf, growOf, appendOf, columnsEnd, dropOf, headOf, leftBy}
+use Rattle.row_builder.specs.Building.{builtBy, beginOf, growOf, appendOf, columnsEnd, dropOf, headOf, leftBy}
 use Rattle.row_builder.specs.declared.Built.the-variants as B
 use Rattle.row_builder.specs.declared.Built.{Built}
 use Rattle.row_builder.specs.declared.Row.{Row}
 use Rattle.writers.specs.Writing.{write, verdictOf}
 use Rattle.writers.proofs.Laws.{front}
-use Rattle.laws.specs.BuilderStatements.{Outcome, Column, rowOf, rowFrame, Stands, theBuilder, encoded, BuildsAsEncoded}
+use Rattle.laws.specs.BuilderStatements.{Column, rowOf, rowFrame, Stands, theBuilder, encoded, BuildsAsEncoded}
 use Rattle.laws.specs.EncodeStatements.{theEncoder}
 use Rattle.laws.proofs.Columns.{length-items, valuesOf, values-snoc, values-able, stored, frame-long, frame-is, head-long, row-encoded, Right, right, range-snoc}
 use Rattle.laws.proofs.Encoding.{same, through, le-exactly, Judged, judged}
@@ -76,8 +75,7 @@ pub fits : (cs : List Column) (room : List ℕ) (n : ℕ) → (verdict cs room �
 unfolding dataRow
 fits cs room n =
     let e = row-encoded cs (length room) in
-    let j = judged-row (leb (length cs) (most signedCount)) large (6 + length (valuesOf cs)) 1 (length room) _ _ _ same (λ _. same) (λ _. same) .done n in
-    (
+    let j = judged-row (leb (length cs) (most signedCount)) large (6 + length (valuesOf cs)) 1 (length room) _ _ _ same (λ _. same) (λ _. same) .done n in (
       λ d. let w = j .0 (sym e ∙ d) in record { few = leb-true _ _ (w .0 .0); small = w .0 .1; there = omega (arith, w .0 .2, frame-long cs); size = omega (arith, w .1, frame-long cs) },
       λ f. e ∙ j .1 ((le-leb _ _ (f .few), f .small, omega (arith, f .there, frame-long cs)), omega (arith, f .size, frame-long cs)),
     )
@@ -103,9 +101,9 @@ unfolding beginOf dataRow itemsBytes
 begins room =
     outcome-is [] 0 [] room (ap (builtBy 0) (sym (row-encoded [] (length room))))
     (λ n f.
-        let e : n ≡ 7 = omega (arith, f .size, frame-long []) in
-        let l : length (take 7 room) ≡ 7 = length-take-le 7 room (omega (arith, f .there, frame-long [])) in
-        rw (take-append-drop 7 room, ← e) at (laid [] (take 7 room) (drop 7 room) n l (f .size)))
+    let e : n ≡ 7 = omega (arith, f .size, frame-long []) in
+    let l : length (take 7 room) ≡ 7 = length-take-le 7 room (omega (arith, f .there, frame-long [])) in
+    rw (take-append-drop 7 room, ← e) at (laid [] (take 7 room) (drop 7 room) n l (f .size)))
 
 -- a count that may grow
 one-more : (a b : ℕ) → ltb a b ≡ leb (a + 1) b
@@ -150,6 +148,7 @@ module _ (row : Row) (room : List ℕ) (cs : List Column) (c : Column) where
       answer =
           let size : row .size - 1 + length bytes ≡ 6 + length (valuesOf more) = omega (arith, s .size, longer, frame-long cs, frame-long more) in
           rw (stands-true s, one-more (row .columns) (most signedCount), s .columns, size, row-encoded more (length room), many) refl
+
       left : (n : ℕ) → Fits more room n → write (write room (row .size) bytes) 0 (headOf (record { columns = length more; size = n })) ≡ rowFrame more ++ drop n room
       left n f =
           let e : row .size + length bytes ≡ n = omega (arith, s .size, longer, f .size) in
@@ -171,8 +170,10 @@ module _ (row : Row) (room : List ℕ) (cs : List Column) (c : Column) where
     where
       g : List ℕ
       g = headOf (stored more)
+
       t : List ℕ
       t = bytes ++ drop (row .size) room
+
       split : g ++ (valuesOf cs ++ t) ≡ room
       split =
           ap (λ (v : List ℕ). g ++ v) (sym (append-assoc (valuesOf cs) bytes (drop (row .size) room)))
@@ -180,8 +181,10 @@ module _ (row : Row) (room : List ℕ) (cs : List Column) (c : Column) where
           ∙ ap (λ (v : List ℕ). (g ++ v) ++ drop (row .size) room) (sym (values-snoc cs c))
           ∙ ap (λ (f : List ℕ). f ++ drop (row .size) room) (sym (frame-is more))
           ∙ at-front s
+
       there : length (rowFrame cs) ≤ length room
       there = omega (arith, longer, length-append (rowFrame more) (drop (row .size) room), ap length (at-front s))
+
       answer : dropOf row room ≡ builtBy (length cs) (verdict cs room)
       answer =
           let r = right (s .wellFormed) in
@@ -189,6 +192,7 @@ module _ (row : Row) (room : List ℕ) (cs : List Column) (c : Column) where
           (record { few = omega (arith, r .few, many); small = omega (arith, r .small, longer, frame-long cs, frame-long more); there = there; size = refl }) in
           let n : row .columns - 1 ≡ length cs = omega (arith, s .columns, many) in
           rw (stands-true s, ne-eqb (row .columns) 0 (λ e. omega (arith, e, s .columns, many)), n, s .bytes, columns-end r, d) refl
+
       left : (n : ℕ) → Fits cs room n → write (write room 0 []) 0 (headOf (record { columns = length cs; size = n })) ≡ rowFrame cs ++ drop n room
       left n f =
           let l : length (g ++ valuesOf cs) ≡ n = omega (arith, length-append g (valuesOf cs), head-long (stored more), f .size, frame-long cs) in

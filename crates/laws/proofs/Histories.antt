@@ -1,9 +1,8 @@
 -- After begin and any calls the room begins with the frame of the expected columns. One fact is kept by every call: that it stands so.
-use Prim.Native.Nat.{ℕ, _+_, _-_, _≤_, _<_, _/_, _^_}
-use mathlib.Core.Bool.{Bool, true, false, cond}
+use Prim.Native.Nat.{ℕ, _+_, _-_, _≤_}
 use mathlib.Core.List.{List, [], _∷_, _++_}
 use mathlib.Core.Logic.{_⊎_, inl, inr}
-use mathlib.Core.Option.{Option, some, none}
+use mathlib.Core.Option.{some, none}
 use mathlib.Core.Path.{_≡_, refl, ap, sym, subst, _∙_}
 use native.Mathlib.Omega.{arith}
 use borrow.Author.Tests.{eq-eqb}
@@ -12,7 +11,6 @@ use lib.Seq.{take-at}
 use Rattle.protocol.specs.declared.Encoded.the-variants as N
 use Rattle.protocol.specs.declared.Encoded.{Encoded}
 use Rattle.protocol.specs.Answers.{success, ofEncoded}
-use Rattle.protocol.specs.Bytes.{Bytes}
 use Rattle.protocol.specs.Encode.{items, writtenBy}
 use Rattle.protocol.specs.Fields.{ValueInRange, valueBytes, ItemsInRange}
 use Rattle.protocol.specs.Kinds.{large, nullable, dataRow, backend}
@@ -20,15 +18,14 @@ use Rattle.protocol.specs.Rules.{rulesOf}
 use Rattle.protocol.proofs.Basics.{zero-one}
 use Rattle.row_builder.specs.Building.{builtBy, ofBuilt, dropOf, finishOf, leftBy}
 use Rattle.row_builder.specs.declared.Built.the-variants as B
-use Rattle.row_builder.specs.declared.Built.{Built}
 use Rattle.row_builder.specs.declared.Row.{Row}
 use Rattle.laws.specs.Arguments.{All}
-use Rattle.laws.specs.BuilderStatements.{Outcome, Column, rowOf, rowFrame, Stands, theBuilder, encoded, Held, Call, append, dropLast, finish, expected, heldBy, called, after, CallInRange, IsBuilt, Histories}
-use Rattle.laws.specs.EncodeStatements.{theEncoder, Decodes}
+use Rattle.laws.specs.BuilderStatements.{Outcome, Column, rowOf, rowFrame, Stands, theBuilder, encoded, Held, Call, append, dropLast, finish, heldBy, called, after, CallInRange, IsBuilt, Histories}
+use Rattle.laws.specs.EncodeStatements.{theEncoder}
 use Rattle.laws.specs.Statements.{theDecoder, theElementCall}
 use Rattle.laws.proofs.Answered.{built}
 use Rattle.laws.proofs.Building.{verdict, Fits, fits, builds-as-encoded}
-use Rattle.laws.proofs.Columns.{valuesOf, values-snoc, Right, right, well, range-snoc}
+use Rattle.laws.proofs.Columns.{valuesOf, values-snoc, right, well, range-snoc}
 use Rattle.laws.proofs.Encoding.{decodes}
 use Rattle.laws.proofs.Numbers.{length-be}
 use Rattle.laws.proofs.Standing.{stands-true}

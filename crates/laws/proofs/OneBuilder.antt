@@ -3,14 +3,12 @@ use Prim.Native.Nat.{ℕ, _+_, _-_}
 use mathlib.Core.Bool.{Bool, true, false, cond, _&&_}
 use mathlib.Core.List.{List, [], _∷_, _++_}
 use mathlib.Core.Logic.{_⊎_, inl, inr}
-use mathlib.Core.Path.{_≡_, refl, ap, sym, subst, _∙_}
-use native.Mathlib.Omega.{arith}
-use borrow.Author.Tests.{eqb-true}
+use mathlib.Core.Path.{_≡_, refl, ap, sym, _∙_}
 use lib.Dec.{ltb, eqb}
 use lib.ListN.{length}
 use Rattle.protocol.specs.declared.Encoded.the-variants as N
 use Rattle.protocol.specs.declared.Encoded.{Encoded}
-use Rattle.protocol.specs.Answers.{success, refusal, Unsuccessful, ofEncoded}
+use Rattle.protocol.specs.Answers.{refusal, Unsuccessful, ofEncoded}
 use Rattle.protocol.specs.Bytes.{Bytes, isOneOf}
 use Rattle.protocol.specs.Fields.{valueBytes, most, signedCount}
 use Rattle.protocol.specs.Kinds.{dataRow}
@@ -22,7 +20,7 @@ use Rattle.row_builder.specs.declared.Built.{Built}
 use Rattle.row_builder.specs.declared.Row.{Row}
 use Rattle.writers.specs.Writing.{verdictOf}
 use Rattle.laws.specs.BuilderStatements.{Outcome, Builder, Column, Stands, Standing, theBuilder, BuildsAsEncoded, BuilderExactly, KeepsTheRoom, builderNumbers, BuilderNumbered, OneBuilder}
-use Rattle.laws.specs.EncodeStatements.{theEncoder}
+use Rattle.laws.specs.EncodeStatements.{theEncoder, encodeNumbers}
 use Rattle.laws.specs.Statements.{GivesNothing, IsNumbered}
 use Rattle.laws.proofs.Answered.{built-refused}
 use Rattle.laws.proofs.Building.{builds-as-encoded}
@@ -72,7 +70,7 @@ finish-says true n = done n
 encoded-numbered : (r : Encoded) → Says r → IsNumbered builderNumbers (ofEncoded r)
 encoded-numbered r s =
     let h = says-number r s .0 in
-    record { number = λ number place e. one-of-more number (4 ∷ 9 ∷ 10 ∷ []) (11 ∷ []) (h .number number place e); nothing = h .nothing }
+    record { number = λ number place e. one-of-more number encodeNumbers _ (h .number number place e); nothing = h .nothing }
 
 pub builder-numbered : (row : Row) (room : List ℕ) (c : Column) → BuilderNumbered theBuilder row room c
 unfolding beginOf growOf dropOf finishOf

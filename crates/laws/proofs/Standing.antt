@@ -1,9 +1,9 @@
 -- A room begins with the well-formed frame of some columns, as the row says, exactly where the calls find it so, which is decoding's word.
 use Prim.Native.Nat.{ℕ}
-use mathlib.Core.Bool.{Bool, true, false, _&&_, false≢true}
-use mathlib.Core.List.{List, [], _∷_, _++_, map}
+use mathlib.Core.Bool.{true, false, false≢true}
+use mathlib.Core.List.{List, [], _∷_, _++_}
 use mathlib.Core.Option.{Option, some, none}
-use mathlib.Core.Path.{_≡_, refl, ap, sym, subst, _∙_}
+use mathlib.Core.Path.{_≡_, refl, ap, sym, _∙_}
 use borrow.Author.Tests.{eqb-true, eq-eqb}
 use lib.Dec.{eqb}
 use lib.ListN.{length, take, drop, take-append-drop}
@@ -30,7 +30,6 @@ use Rattle.reader.proofs.RowRoom.{row-in, data-row}
 use Rattle.row_builder.specs.Building.{stands, isOf}
 use Rattle.row_builder.specs.declared.Row.{Row}
 use Rattle.laws.specs.BuilderStatements.{Column, rowOf, rowFrame, Stands, Standing}
-use Rattle.laws.specs.Statements.{Accepted}
 use Rattle.laws.proofs.Answered.{recorded}
 use Rattle.laws.proofs.Columns.{length-items, backend-in}
 use Rattle.laws.proofs.Complete.{complete}
