@@ -48,11 +48,10 @@ head-over h g t e = front (g ++ t) h (simp length-append (omega arith)) ∙ rw (
 -- ---- the answer and the room
 
 -- the head of columns whose bytes are there already
-laid : (cs : List Column) (g t : List ℕ) (n : ℕ) → length g ≡ 7 → n ≡ length (rowFrame cs) → write (g ++ (valuesOf cs ++ t)) 0 (headOf (record { columns = length cs; size = n })) ≡ rowFrame cs ++ t
-laid cs g t n l e =
+laid : (cs : List Column) (g t : List ℕ) → length g ≡ 7 → write (g ++ (valuesOf cs ++ t)) 0 (headOf (stored cs)) ≡ rowFrame cs ++ t
+laid cs g t l =
     let h = headOf (stored cs) in
-    ap (λ (i : ℕ). write (g ++ (valuesOf cs ++ t)) 0 (headOf (record { columns = length cs; size = i }))) e
-    ∙ head-over h g (valuesOf cs ++ t) (head-long (stored cs) ∙ sym l) ∙ sym (append-assoc h (valuesOf cs) t) ∙ ap (λ (f : List ℕ). f ++ t) (sym (frame-is cs))
+    head-over h g (valuesOf cs ++ t) (head-long (stored cs) ∙ sym l) ∙ sym (append-assoc h (valuesOf cs) t) ∙ ap (λ (f : List ℕ). f ++ t) (sym (frame-is cs))
 
 -- the verdict, by its tests
 pub judged-row : (able : Bool) (limit size uncounted room : ℕ) (A B C : Type 0) → A ↔ (able ≡ true) → (A → B ↔ (size ≤ limit)) → (A → C ↔ (size + uncounted ≤ room)) → Judged A B C (verdictOf able limit size uncounted room) (size + uncounted)
@@ -89,21 +88,24 @@ left-by cs p xs room (N.Done n) h = h n refl
 left-by cs p xs room (N.Refused number place) h = refl
 
 outcome-is : (cs : List Column) (p : ℕ) (xs room : List ℕ) {answer : Built} → answer ≡ builtBy (length cs) (verdict cs room)
-    → ((n : ℕ) → Fits cs room n → write (write room p xs) 0 (headOf (record { columns = length cs; size = n })) ≡ rowFrame cs ++ drop n room)
+    → (length (rowFrame cs) ≤ length room → write (write room p xs) 0 (headOf (stored cs)) ≡ rowFrame cs ++ drop (length (rowFrame cs)) room)
     → record { answer = answer; room = leftBy answer p xs room } ≡ encoded theEncoder cs room
 outcome-is cs p xs room e h =
-    rw e (ap (λ (r : List ℕ). record { answer = builtBy (length cs) (verdict cs room); room = r }) (left-by cs p xs room (verdict cs room) (λ n d. h n (fits cs room n .0 d))))
+    rw e (ap (λ (r : List ℕ). record { answer = builtBy (length cs) (verdict cs room); room = r }) (left-by cs p xs room (verdict cs room) left))
+  where
+    left : (n : ℕ) → verdict cs room ≡ N.Done n → write (write room p xs) 0 (headOf (record { columns = length cs; size = n })) ≡ rowFrame cs ++ drop n room
+    left n d = let f = fits cs room n .0 d in rw (f .size) (h (f .there))
 
 -- ---- the calls
 
 begins : (room : List ℕ) → theBuilder .begin room ≡ encoded theEncoder [] room
 unfolding beginOf dataRow itemsBytes
-begins room =
-    outcome-is [] 0 [] room (ap (builtBy 0) (sym (row-encoded [] (length room))))
-    (λ n f.
-    let e : n ≡ 7 = omega (arith, f .size, frame-long []) in
-    let l : length (take 7 room) ≡ 7 = length-take-le 7 room (omega (arith, f .there, frame-long [])) in
-    rw (take-append-drop 7 room, ← e) at (laid [] (take 7 room) (drop 7 room) n l (f .size)))
+begins room = outcome-is [] 0 [] room (ap (builtBy 0) (sym (row-encoded [] (length room)))) left
+  where
+    left : length (rowFrame []) ≤ length room → write room 0 (headOf (stored [])) ≡ rowFrame [] ++ drop (length (rowFrame [])) room
+    left h =
+        let l : length (take 7 room) ≡ 7 = length-take-le 7 room (omega (arith, frame-long [])) in
+        rw (take-append-drop 7 room) at (laid [] (take 7 room) (drop 7 room) l) ∙ ap (λ (i : ℕ). rowFrame [] ++ drop i room) (sym (frame-long []))
 
 -- a count that may grow
 one-more : (a b : ℕ) → ltb a b ≡ leb (a + 1) b
@@ -149,10 +151,11 @@ module _ (row : Row) (room : List ℕ) (cs : List Column) (c : Column) where
           let size : row .size - 1 + length bytes ≡ 6 + length (valuesOf more) = omega (arith, s .size, longer, frame-long cs, frame-long more) in
           rw (stands-true s, one-more (row .columns) (most signedCount), s .columns, size, row-encoded more (length room), many) refl
 
-      left : (n : ℕ) → Fits more room n → write (write room (row .size) bytes) 0 (headOf (record { columns = length more; size = n })) ≡ rowFrame more ++ drop n room
-      left n f =
-          let e : row .size + length bytes ≡ n = omega (arith, s .size, longer, f .size) in
-          rw (behind s (omega (arith, e, f .size, f .there)), e) (laid more (headOf (stored cs)) (drop n room) n (head-long (stored cs)) (f .size))
+      left : length (rowFrame more) ≤ length room → write (write room (row .size) bytes) 0 (headOf (stored more)) ≡ rowFrame more ++ drop (length (rowFrame more)) room
+      left h =
+          let e : row .size + length bytes ≡ length (rowFrame more) = omega (arith, s .size, longer) in
+          ap (λ (r : List ℕ). write r 0 (headOf (stored more))) (behind s (omega (arith, e)))
+          ∙ laid more (headOf (stored cs)) (drop (row .size + length bytes) room) (head-long (stored cs)) ∙ ap (λ (i : ℕ). rowFrame more ++ drop i room) e
 
   -- where the columns before the last end
   columns-end : Right more → columnsEnd (length cs) (rowFrame more) ≡ length (rowFrame cs)
@@ -176,11 +179,7 @@ module _ (row : Row) (room : List ℕ) (cs : List Column) (c : Column) where
 
       split : g ++ (valuesOf cs ++ t) ≡ room
       split =
-          ap (λ (v : List ℕ). g ++ v) (sym (append-assoc (valuesOf cs) bytes (drop (row .size) room)))
-          ∙ sym (append-assoc g (valuesOf cs ++ bytes) (drop (row .size) room))
-          ∙ ap (λ (v : List ℕ). (g ++ v) ++ drop (row .size) room) (sym (values-snoc cs c))
-          ∙ ap (λ (f : List ℕ). f ++ drop (row .size) room) (sym (frame-is more))
-          ∙ at-front s
+          rw (← append-assoc (valuesOf cs) bytes (drop (row .size) room), ← values-snoc cs c, ← append-assoc g (valuesOf more) (drop (row .size) room), ← frame-is more) (at-front s)
 
       there : length (rowFrame cs) ≤ length room
       there = omega (arith, longer, length-append (rowFrame more) (drop (row .size) room), ap length (at-front s))
@@ -193,12 +192,11 @@ module _ (row : Row) (room : List ℕ) (cs : List Column) (c : Column) where
           let n : row .columns - 1 ≡ length cs = omega (arith, s .columns, many) in
           rw (stands-true s, ne-eqb (row .columns) 0 (λ e. omega (arith, e, s .columns, many)), n, s .bytes, columns-end r, d) refl
 
-      left : (n : ℕ) → Fits cs room n → write (write room 0 []) 0 (headOf (record { columns = length cs; size = n })) ≡ rowFrame cs ++ drop n room
-      left n f =
-          let l : length (g ++ valuesOf cs) ≡ n = omega (arith, length-append g (valuesOf cs), head-long (stored more), f .size, frame-long cs) in
-          let e : drop n room ≡ t = ap (drop n) (sym split ∙ sym (append-assoc g (valuesOf cs) t)) ∙ drop-at (g ++ valuesOf cs) t n l in
-          ap (λ (r : List ℕ). write r 0 (headOf (record { columns = length cs; size = n }))) (sym split)
-          ∙ laid cs g t n (head-long (stored more)) (f .size) ∙ ap (λ (u : List ℕ). rowFrame cs ++ u) (sym e)
+      left : length (rowFrame cs) ≤ length room → write room 0 (headOf (stored cs)) ≡ rowFrame cs ++ drop (length (rowFrame cs)) room
+      left h =
+          let l : length (g ++ valuesOf cs) ≡ length (rowFrame cs) = omega (arith, length-append g (valuesOf cs), head-long (stored more), frame-long cs) in
+          let e : drop (length (rowFrame cs)) room ≡ t = ap (drop (length (rowFrame cs))) (sym split ∙ sym (append-assoc g (valuesOf cs) t)) ∙ drop-at (g ++ valuesOf cs) t (length (rowFrame cs)) l in
+          ap (λ (r : List ℕ). write r 0 (headOf (stored cs))) (sym split) ∙ laid cs g t (head-long (stored more)) ∙ ap (λ (u : List ℕ). rowFrame cs ++ u) (sym e)
 
 pub builds-as-encoded : BuildsAsEncoded theBuilder theEncoder
 builds-as-encoded = record { begins = begins; appends = appends; drops = drops }
