@@ -70,10 +70,9 @@ not-le a b = (λ h. by (leb a b) refl h, λ h l. omega arith)
 
 -- ---- exactly
 
-module _ (room : List ℕ) where
-  beginning : Judged (Unit {0}) (Unit {0}) (7 ≤ length room) (verdictOf true (dataRow .limit) (dataRow .smallest) 1 (length room)) 7
-  unfolding dataRow
-  beginning = judged-row true (dataRow .limit) (dataRow .smallest) 1 (length room) _ _ _ (yes tt refl) (λ _. yes tt (omega arith)) (λ _. same)
+beginning : (room : List ℕ) → Judged (Unit {0}) (Unit {0}) (7 ≤ length room) (verdictOf true (dataRow .limit) (dataRow .smallest) 1 (length room)) 7
+unfolding dataRow
+beginning room = judged-row true (dataRow .limit) (dataRow .smallest) 1 (length room) _ _ _ (yes tt refl) (λ _. yes tt (omega arith)) (λ _. same)
 
 module _ (row : Row) (room : List ℕ) (c : Column) (b : Bytes room) where
   abbrev n : ℕ

@@ -24,7 +24,20 @@ use Rattle.laws.proofs.Complete.{header-long}
 use Rattle.laws.proofs.Numbers.{length-be}
 use Rattle.laws.proofs.Table.{kind-found}
 
--- ---- columns as items
+-- ---- columns, and columns as items
+
+-- none, or a last one behind others
+pub data Ends : List Column → Type 0 where
+  empty : Ends []
+  last : (cs : List Column) (c : Column) → Ends (cs ++ c ∷ [])
+
+pub ends : (cs : List Column) → Ends cs
+ends [] = empty
+ends (x ∷ cs) = by (ends cs)
+  where
+    by : {ds : List Column} → Ends ds → Ends (x ∷ ds)
+    by empty = last [] x
+    by (last ds c) = last (x ∷ ds) c
 
 pub length-items : {A : Type 0} (xs : List A) → length (items xs) ≡ length xs
 length-items [] = refl

@@ -1,12 +1,11 @@
 -- After begin and any calls the room begins with the frame of the expected columns. One fact is kept by every call: that it stands so.
 use Prim.Native.Nat.{ℕ, _+_, _-_, _≤_}
 use mathlib.Core.List.{List, [], _∷_, _++_}
-use mathlib.Core.Logic.{_⊎_, inl, inr}
 use mathlib.Core.Option.{some, none}
 use mathlib.Core.Path.{_≡_, refl, ap, sym, subst, _∙_}
 use native.Mathlib.Omega.{arith}
 use borrow.Author.Tests.{eq-eqb}
-use lib.ListN.{length, take, drop, length-append}
+use lib.ListN.{length, drop, length-append}
 use lib.Seq.{take-at}
 use Rattle.protocol.specs.declared.Encoded.the-variants as N
 use Rattle.protocol.specs.declared.Encoded.{Encoded}
@@ -20,12 +19,12 @@ use Rattle.row_builder.specs.Building.{builtBy, ofBuilt, dropOf, finishOf, left
 use Rattle.row_builder.specs.declared.Built.the-variants as B
 use Rattle.row_builder.specs.declared.Row.{Row}
 use Rattle.laws.specs.Arguments.{All}
-use Rattle.laws.specs.BuilderStatements.{Outcome, Column, rowOf, rowFrame, Stands, theBuilder, encoded, Held, Call, append, dropLast, finish, heldBy, called, after, CallInRange, IsBuilt, Histories}
+use Rattle.laws.specs.BuilderStatements.{Outcome, Column, rowOf, rowFrame, Stands, theBuilder, encoded, Held, Call, append, dropLast, finish, expected, heldBy, called, after, CallInRange, IsBuilt, Histories}
 use Rattle.laws.specs.EncodeStatements.{theEncoder}
 use Rattle.laws.specs.Statements.{theDecoder, theElementCall}
 use Rattle.laws.proofs.Answered.{built}
 use Rattle.laws.proofs.Building.{verdict, Fits, fits, builds-as-encoded}
-use Rattle.laws.proofs.Columns.{valuesOf, values-snoc, right, well, range-snoc}
+use Rattle.laws.proofs.Columns.{Ends, empty, last, ends, valuesOf, values-snoc, right, well, range-snoc}
 use Rattle.laws.proofs.Encoding.{decodes}
 use Rattle.laws.proofs.Numbers.{length-be}
 use Rattle.laws.proofs.Standing.{stands-true}
@@ -65,31 +64,14 @@ unfolding valueBytes ValueInRange
 value-ranged none r l = tt
 value-ranged (some v) r l = (r, omega (arith, simp (length-append, length-be) at l))
 
--- none, or a last one behind others
-pub last-or : (cs : List Column) → (cs ≡ []) ⊎ ((ds : List Column) × (c : Column) × (cs ≡ ds ++ c ∷ []))
-last-or [] = inl refl
-last-or (x ∷ cs) = inr (by (last-or cs))
-  where
-    by : (cs ≡ []) ⊎ ((ds : List Column) × (c : Column) × (cs ≡ ds ++ c ∷ [])) → (ds : List Column) × (c : Column) × (x ∷ cs ≡ ds ++ c ∷ [])
-    by (inl e) = ([], x, ap (λ (ys : List Column). x ∷ ys) e)
-    by (inr w) = (x ∷ w .0, w .1, ap (λ (ys : List Column). x ∷ ys) (w .2))
-
-module _ (row : Row) (room : List ℕ) where
-  abbrev holding : List Column → Held
-  holding cs = record { row = row; room = room; columns = cs }
-
-  none-dropped : StandsOf (holding []) → StandsOf (called theBuilder (holding []) dropLast)
-  unfolding dropOf leftBy
-  none-dropped s = rw (stands-true s, eq-eqb (row .columns) 0 (s .columns)) s
-
-  last-dropped : (ds : List Column) (c : Column) → StandsOf (holding (ds ++ c ∷ [])) → StandsOf (called theBuilder (holding (ds ++ c ∷ [])) dropLast)
-  last-dropped ds c s =
-      let e : take (length (ds ++ c ∷ []) - 1) (ds ++ c ∷ []) ≡ ds = take-at ds (c ∷ []) (length (ds ++ c ∷ []) - 1) (omega (arith, length-append ds (c ∷ []))) in
-      rw e (kept (holding (ds ++ c ∷ [])) s ds (λ _. range-snoc ds c .0 (right (s .wellFormed) .inRange) .0) (builds-as-encoded .drops row room ds c s))
-
-  dropped : (cs : List Column) → StandsOf (holding cs) → (cs ≡ []) ⊎ ((ds : List Column) × (c : Column) × (cs ≡ ds ++ c ∷ [])) → StandsOf (called theBuilder (holding cs) dropLast)
-  dropped cs s (inl e) = subst (λ (cs : List Column). StandsOf (holding cs) → StandsOf (called theBuilder (holding cs) dropLast)) (sym e) none-dropped s
-  dropped cs s (inr w) = subst (λ (cs : List Column). StandsOf (holding cs) → StandsOf (called theBuilder (holding cs) dropLast)) (sym (w .2)) (last-dropped (w .0) (w .1)) s
+dropped : (row : Row) (room : List ℕ) {cs : List Column} → Ends cs
+    → let h : Held = record { row = row; room = room; columns = cs } in
+    StandsOf h → StandsOf (called theBuilder h dropLast)
+unfolding dropOf leftBy
+dropped row room empty s = rw (stands-true s, eq-eqb (row .columns) 0 (s .columns)) s
+dropped row room (last cs c) s =
+    let e : expected dropLast (cs ++ c ∷ []) ≡ cs = take-at cs (c ∷ []) (length (cs ++ c ∷ []) - 1) (omega (arith, length-append cs (c ∷ []))) in
+    rw e (kept _ s cs (λ _. range-snoc cs c .0 (right (s .wellFormed) .inRange) .0) (builds-as-encoded .drops row room cs c s))
 
 step : (h : Held) (c : Call) → CallInRange c → StandsOf h → StandsOf (called theBuilder h c)
 step h (append c) r s = kept h s (h .columns ++ c ∷ []) ranged (builds-as-encoded .appends (h .row) (h .room) (h .columns) c s)
@@ -98,7 +80,7 @@ step h (append c) r s = kept h s (h .columns ++ c ∷ []) ranged (builds-as-enco
     ranged l =
         let long = simp length-append at (ap length (values-snoc (h .columns) c)) in
         range-snoc (h .columns) c .1 (right (s .wellFormed) .inRange, value-ranged c r (omega arith))
-step h dropLast r s = dropped (h .row) (h .room) (h .columns) s (last-or (h .columns))
+step h dropLast r s = dropped (h .row) (h .room) (ends (h .columns)) s
 step h finish r s = s
 
 steps : (calls : List Call) (h : Held) → All CallInRange calls → StandsOf h → StandsOf (after theBuilder h calls)

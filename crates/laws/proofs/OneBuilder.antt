@@ -1,9 +1,9 @@
 -- The numbers that the builder's refusals have; and that whatever meets the statements gives the same answers and leaves the same room.
 use Prim.Native.Nat.{ℕ, _+_, _-_}
 use mathlib.Core.Bool.{Bool, true, false, cond, _&&_}
-use mathlib.Core.List.{List, [], _∷_, _++_}
-use mathlib.Core.Logic.{_⊎_, inl, inr}
-use mathlib.Core.Path.{_≡_, refl, ap, sym, _∙_}
+use mathlib.Core.List.{List, []}
+use mathlib.Core.Logic.{inl, inr}
+use mathlib.Core.Path.{_≡_, refl, sym, _∙_}
 use lib.Dec.{ltb, eqb}
 use lib.ListN.{length}
 use Rattle.protocol.specs.declared.Encoded.the-variants as N
@@ -25,8 +25,8 @@ use Rattle.laws.specs.Statements.{GivesNothing, IsNumbered}
 use Rattle.laws.proofs.Answered.{built-refused}
 use Rattle.laws.proofs.Building.{builds-as-encoded}
 use Rattle.laws.proofs.BuilderExactly.{builder-exactly, keeps-the-room}
+use Rattle.laws.proofs.Columns.{Ends, empty, last, ends}
 use Rattle.laws.proofs.Encoding.{Says, ten, four, nine, done, judge-says}
-use Rattle.laws.proofs.Histories.{last-or}
 use Rattle.laws.proofs.Numbered.{success-nothing, refusal-nothing, one-of-more}
 use Rattle.laws.proofs.Only.{says-number}
 use Rattle.laws.proofs.Standing.{standing, not-standing}
@@ -102,16 +102,14 @@ module _ (other : Builder) (builds : BuildsAsEncoded other theEncoder) (exactly 
       let n = inl (not-standing row room e) in
       refused-alike (exactly row room c b .appendTen .1 n) (builder-exactly row room c b .appendTen .1 n) (keeps .append row c room) (keeps-the-room .append row c room)
 
-  drop-last : (cs : List Column) → Stands row room cs → (cs ≡ []) ⊎ ((ds : List Column) × (d : Column) × (cs ≡ ds ++ d ∷ [])) → other .dropLast row room ≡ theBuilder .dropLast row room
-  drop-last cs s (inl e) =
-      let n : Standing row room × (row .columns ≡ 0) = ((cs, s), s .columns ∙ ap length e) in
+  drop-last : {cs : List Column} → Ends cs → Stands row room cs → other .dropLast row room ≡ theBuilder .dropLast row room
+  drop-last empty s =
+      let n : Standing row room × (row .columns ≡ 0) = (([], s), s .columns) in
       refused-alike (exactly row room c b .dropEleven .1 n) (builder-exactly row room c b .dropEleven .1 n) (keeps .dropLast row room) (keeps-the-room .dropLast row room)
-  drop-last cs s (inr w) =
-      let t : Stands row room (w .0 ++ w .1 ∷ []) = rw (w .2) at s in
-      builds .drops row room (w .0) (w .1) t ∙ sym (builds-as-encoded .drops row room (w .0) (w .1) t)
+  drop-last (last cs d) s = builds .drops row room cs d s ∙ sym (builds-as-encoded .drops row room cs d s)
 
   same-drop : (t : Bool) → stands row room ≡ t → other .dropLast row room ≡ theBuilder .dropLast row room
-  same-drop true e = let s = standing row room b e in drop-last (s .0) (s .1) (last-or (s .0))
+  same-drop true e = let s = standing row room b e in drop-last (ends (s .0)) (s .1)
   same-drop false e =
       let n = not-standing row room e in
       refused-alike (exactly row room c b .dropTen .1 n) (builder-exactly row room c b .dropTen .1 n) (keeps .dropLast row room) (keeps-the-room .dropLast row room)
