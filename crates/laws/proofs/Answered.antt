@@ -17,6 +17,10 @@ use Rattle.protocol.proofs.Basics.{zero-one}
 use Rattle.reader.specs.Row.{ofRow}
 use Rattle.reader.specs.declared.row.Row.the-variants as R
 use Rattle.reader.specs.declared.row.Row.{Row}
+use Rattle.row_builder.specs.Building.{ofBuilt}
+use Rattle.row_builder.specs.declared.Built.the-variants as B
+use Rattle.row_builder.specs.declared.Built.{Built}
+use Rattle.row_builder.specs.declared.Row.{Row as Stored}
 
 valueBy : {X R : Type 0} → (X → R) → R → Option X → R
 valueBy got lacks none = lacks
@@ -124,6 +128,23 @@ pub row-is : {r : Row} {l : ListSlot} {n : ℕ} → ofRow r ≡ success l n → 
 unfolding back valueBy
 row-is {r} e = sym (row-back r) ∙ ap rowFrom e
 
+-- nor does a builder
+abbrev builtFrom : Answer Stored → Built
+builtFrom = back (λ row _. B.Is row) (B.Refused 0 0) B.Refused
+
+built-back : (b : Built) → builtFrom (ofBuilt b) ≡ b
+unfolding ofBuilt back valueBy
+built-back (B.Is row) = refl
+built-back (B.Refused number place) = refl
+
+pub built : {b : Built} {row : Stored} → ofBuilt b ≡ success row 0 → b ≡ B.Is row
+unfolding back valueBy
+built {b} e = sym (built-back b) ∙ ap builtFrom e
+
+pub built-refused : {b : Built} {number place : ℕ} → ofBuilt b ≡ refusal number place → b ≡ B.Refused number place
+unfolding back valueBy
+built-refused {b} e = sym (built-back b) ∙ ap builtFrom e
+
 -- ---- refused or told need-more is no success
 
 pub refusal-is : {X : Type 0} {a b c d : ℕ} → refusal {X = X} a b ≡ refusal c d → (a ≡ c) × (b ≡ d)
@@ -135,6 +156,11 @@ needs-refusal {X} e = false≢true (sym (ap (λ (a : Answer X). a .needMore) e))
 pub not-success : {X : Type 0} {x : X} {n : ℕ} → Unsuccessful (success x n) → ⊥
 not-success {X} (inl e) = let v = ap (λ (a : Answer X). a .value) e in zero-one cc
 not-success {X} (inr (number, place, e)) = let v = ap (λ (a : Answer X). a .value) e in zero-one cc
+
+pub built-unsuccessful : (b : Built) → Unsuccessful (ofBuilt b) → (number : ℕ) × (place : ℕ) × (b ≡ B.Refused number place)
+unfolding ofBuilt
+built-unsuccessful (B.Is row) h = absurd (not-success h)
+built-unsuccessful (B.Refused number place) h = (number, place, refl)
 
 pub encoded-unsuccessful : (r : Encoded) → Unsuccessful (ofEncoded r) → (number : ℕ) × (place : ℕ) × (r ≡ N.Refused number place)
 unfolding ofEncoded

@@ -42,19 +42,22 @@ yes a b = (λ _. b, λ _. a)
 pub no : {A B : Type 0} → (A → ⊥) → (B → ⊥) → A ↔ B
 no a b = (λ h. absurd (a h), λ h. absurd (b h))
 
-through : {A B C : Type 0} → A ↔ B → B ↔ C → A ↔ C
+pub same : {A : Type 0} → A ↔ A
+same = (λ a. a, λ a. a)
+
+pub through : {A B C : Type 0} → A ↔ B → B ↔ C → A ↔ C
 through f g = (λ a. g .0 (f .0 a), λ c. f .1 (g .1 c))
 
 -- an answer's case, by what it is set out as
-says-refused : {r : Encoded} {number place : ℕ} → (ofEncoded r ≡ refusal number place) ↔ (r ≡ N.Refused number place)
+pub says-refused : {r : Encoded} {number place : ℕ} → (ofEncoded r ≡ refusal number place) ↔ (r ≡ N.Refused number place)
 unfolding ofEncoded
 says-refused = (encoded-refused, λ e. rw e refl)
 
-says-done : {r : Encoded} {n : ℕ} → (ofEncoded r ≡ success tt n) ↔ (r ≡ N.Done n)
+pub says-done : {r : Encoded} {n : ℕ} → (ofEncoded r ≡ success tt n) ↔ (r ≡ N.Done n)
 unfolding ofEncoded
 says-done = (is-done, λ e. rw e refl)
 
-le-exactly : (a b : ℕ) → (a ≤ b) ↔ (ltb b a ≡ false)
+pub le-exactly : (a b : ℕ) → (a ≤ b) ↔ (ltb b a ≡ false)
 le-exactly a b = (le-ltb _ _, ltb-false _ _)
 
 other : (a b : ℕ) → (a ≡ b → ⊥) → (p q : ℕ) → N.Refused a p ≡ N.Refused b q → ⊥
@@ -73,19 +76,19 @@ pub data Says : Encoded → Type 0 where
   nine : Says (N.Refused outputTooShort 0)
   done : (n : ℕ) → Says (N.Done n)
 
-judge-says : (able long short : Bool) (n : ℕ) → Says (judge able long short n)
+pub judge-says : (able long short : Bool) (n : ℕ) → Says (judge able long short n)
 judge-says false long short n = ten
 judge-says true true short n = four
 judge-says true false true n = nine
 judge-says true false false n = done n
 
-record Judged (A B C : Type 0) (r : Encoded) (n : ℕ) : Type 0 where
-  ten : (r ≡ N.Refused notRepresentable 0) ↔ (A → ⊥)
-  four : (r ≡ N.Refused lengthAboveLimit 0) ↔ (A × (B → ⊥))
-  nine : (r ≡ N.Refused outputTooShort 0) ↔ (A × B × (C → ⊥))
-  done : (j : ℕ) → (r ≡ N.Done j) ↔ ((A × B × C) × (j ≡ n))
+pub record Judged (A B C : Type 0) (r : Encoded) (n : ℕ) : Type 0 where
+  pub ten : (r ≡ N.Refused notRepresentable 0) ↔ (A → ⊥)
+  pub four : (r ≡ N.Refused lengthAboveLimit 0) ↔ (A × (B → ⊥))
+  pub nine : (r ≡ N.Refused outputTooShort 0) ↔ (A × B × (C → ⊥))
+  pub done : (j : ℕ) → (r ≡ N.Done j) ↔ ((A × B × C) × (j ≡ n))
 
-judged : (able long short : Bool) (n : ℕ) (A B C : Type 0) → A ↔ (able ≡ true) → B ↔ (long ≡ false) → C ↔ (short ≡ false) → Judged A B C (judge able long short n) n
+pub judged : (able long short : Bool) (n : ℕ) (A B C : Type 0) → A ↔ (able ≡ true) → (A → B ↔ (long ≡ false)) → (A → C ↔ (short ≡ false)) → Judged A B C (judge able long short n) n
 judged false long short n A B C a b c =
     let not : A → ⊥ = λ h. false≢true (a .0 h) in
     record {
@@ -96,7 +99,7 @@ judged false long short n A B C a b c =
     }
 judged true true short n A B C a b c =
     let is : A = a .1 refl in
-    let not : B → ⊥ = λ h. false≢true (sym (b .0 h)) in
+    let not : B → ⊥ = λ h. false≢true (sym (b is .0 h)) in
     record {
       ten = no (other 4 10 (λ e. omega arith) 0 0) (λ h. h is);
       four = yes refl (is, not);
@@ -105,8 +108,8 @@ judged true true short n A B C a b c =
     }
 judged true false true n A B C a b c =
     let is : A = a .1 refl in
-    let fits : B = b .1 refl in
-    let not : C → ⊥ = λ h. false≢true (sym (c .0 h)) in
+    let fits : B = b is .1 refl in
+    let not : C → ⊥ = λ h. false≢true (sym (c is .0 h)) in
     record {
       ten = no (other 9 10 (λ e. omega arith) 0 0) (λ h. h is);
       four = no (other 9 4 (λ e. omega arith) 0 0) (λ h. h .1 fits);
@@ -115,8 +118,8 @@ judged true false true n A B C a b c =
     }
 judged true false false n A B C a b c =
     let is : A = a .1 refl in
-    let fits : B = b .1 refl in
-    let room : C = c .1 refl in
+    let fits : B = b is .1 refl in
+    let room : C = c is .1 refl in
     record {
       ten = no (done-not 10 0 n) (λ h. h is);
       four = no (done-not 4 0 n) (λ h. h .1 fits);
@@ -148,16 +151,16 @@ module _ (m : Mode) (k : Kind) where
   verdict c out =
       judged (canBe c) (ltb (k .limit) (word c)) (ltb (length out) (size c)) (size c) _ _ _
       (given-is (λ x. canBe x ≡ true) c)
-      (through (given-is (λ x. word x ≤ k .limit) c) (le-exactly (word c) (k .limit)))
-      (through (given-is (λ x. size x ≤ length out) c) (le-exactly (size c) (length out)))
+      (λ _. through (given-is (λ x. word x ≤ k .limit) c) (le-exactly (word c) (k .limit)))
+      (λ _. through (given-is (λ x. size x ≤ length out) c) (le-exactly (size c) (length out)))
 
   verdict-none : (out : List ℕ) → Judged (Representable m k none) (WithinLimit m k none) (HasRoom m k none out) (theEncoder m k none out .answer) 0
   unfolding encodedBy
   verdict-none out =
       judged false true true 0 _ _ _
       (no (given-none (λ x. canBe x ≡ true)) false≢true)
-      (no (given-none (λ x. word x ≤ k .limit)) (λ e. false≢true (sym e)))
-      (no (given-none (λ x. size x ≤ length out)) (λ e. false≢true (sym e)))
+      (λ _. no (given-none (λ x. word x ≤ k .limit)) (λ e. false≢true (sym e)))
+      (λ _. no (given-none (λ x. size x ≤ length out)) (λ e. false≢true (sym e)))
 
   -- success says the size of what is written, and writes the frame
   wrote : (c : Contents k) (out : List ℕ) (n : ℕ) → theEncoder m k (some c) out .answer ≡ N.Done n → (n ≡ size c) × (theEncoder m k (some c) out .output ≡ frame (m .envelope) k c ++ drop n out)

@@ -29,3 +29,9 @@ pub mod RowAnswers
 pub mod Steps
 pub mod Only
 pub mod Rejected
+pub mod Columns
+pub mod Standing
+pub mod Building
+pub mod BuilderExactly
+pub mod Histories
+pub mod OneBuilder

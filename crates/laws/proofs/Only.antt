@@ -104,7 +104,7 @@ elements-numbered rules s l n b = (record { number = case-number rules s l n b (
 
 -- ---- encoders
 
-says-number : (r : Encoded) → Says r → IsNumbered encodeNumbers (ofEncoded r) × (ofEncoded r .place ≡ 0)
+pub says-number : (r : Encoded) → Says r → IsNumbered encodeNumbers (ofEncoded r) × (ofEncoded r .place ≡ 0)
 unfolding ofEncoded isOneOf
 says-number r ten = (record { number = λ number place h. let q : 10 ≡ number = refusal-is h .0 in rw (← q) refl; nothing = encoded-nothing r }, refl)
 says-number r four = (record { number = λ number place h. let q : 4 ≡ number = refusal-is h .0 in rw (← q) refl; nothing = encoded-nothing r }, refl)

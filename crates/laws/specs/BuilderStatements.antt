@@ -134,7 +134,7 @@ expected dropLast cs = take (length cs - 1) cs
 expected finish cs = cs
 
 -- success gives the new row, and the columns that are expected; a refusal leaves row and columns. The room is what the call left
-abbrev heldBy : Held → List Column → Built → List ℕ → Held
+abbrev pub heldBy : Held → List Column → Built → List ℕ → Held
 heldBy h cs (B.Is row) room = record { row = row; room = room; columns = cs }
 heldBy h cs (B.Refused number place) room = record { row = h .row; room = room; columns = h .columns }
 
