@@ -107,10 +107,10 @@ pub fn around_the_limits(run: &mut Run, r: &mut Rng, turns: usize) {
         let few: Vec<Column> = (0..1 + r.below(4)).map(|_| Some(r.bytes())).collect();
         let left = r.below(3);
         let near = stretched(&few, left);
-        for value in [Some(vec![]), Some(vec![5; left]), Some(vec![5; left + 1])] {
+        for value in [vec![], vec![5; left], vec![5; left + 1]].map(Some) {
             // 4 before 9
             for room in [left + 5, left + 4, left + 3, 0] {
-                built_on(run, &near, &[value.clone()], room);
+                built_on(run, &near, std::slice::from_ref(&value), room);
             }
         }
         built_on(run, &near[..0], &[Some(vec![7; LIMIT - 10]), None], LIMIT);
