@@ -5,6 +5,8 @@
 //!
 //! Both forms go through the same points in the same order, so that a count is known by its place.
 
+mod building;
+
 use crate::content::{Content, Field, RowField};
 use crate::model::{self, named, Count, Framing, KINDS};
 use crate::{oracle, ours};
@@ -329,6 +331,7 @@ pub fn run(traffic: &[(u8, Vec<u8>)], counts: Option<Vec<u64>>) {
     let real = real(&mut p, traffic);
     let generated = generated(&mut p);
     let singles: Vec<Single> = [rows(&mut p), parameters(&mut p), walks(&mut p), strings(&mut p)].into_iter().flatten().collect();
+    let built = building::run(&mut p, empty);
     if !show {
         return;
     }
@@ -337,7 +340,9 @@ pub fn run(traffic: &[(u8, Vec<u8>)], counts: Option<Vec<u64>>) {
     table("Generated frames", &generated);
     println!("\n### Rows, elements and strings\n\n| Call | Instructions |\n|---|---|");
     singles.iter().for_each(|s| println!("| {} | {:.0} |", s.name, s.cost));
+    building::shown(&built, &generated);
     growth(&generated, &singles);
+    building::growth(&built);
 }
 
 /// The slopes: what one more column, element or byte costs.

@@ -1,6 +1,6 @@
 //! The Rattle library, by the numbers at its boundary: the binding for Rust declares its functions.
 
-use crate::model::{numbered, Given, Kind, Part, RowFieldGiven};
+use crate::model::{numbered, Building, Given, Kind, Part, RowFieldGiven, Step};
 use tusweram::ffi::{self, Lists, Plain, Row};
 use tusweram::{FieldDescription, Span};
 
@@ -88,5 +88,46 @@ fn field_description(f: &RowFieldGiven) -> FieldDescription {
         type_size: f.type_size,
         type_modifier: f.type_modifier,
         format_code: f.format_code,
+    }
+}
+
+// ---- a row built column by column
+
+unsafe extern "C" {
+    fn tusweram_row_begin(row: *mut usize, room: *mut u8, room_len: usize) -> u8;
+    fn tusweram_row_append(row: *mut usize, room: *mut u8, room_len: usize, value: *const u8, value_len: usize) -> u8;
+    fn tusweram_row_append_null(row: *mut usize, room: *mut u8, room_len: usize) -> u8;
+    fn tusweram_row_drop_last(row: *mut usize, room: *mut u8, room_len: usize) -> u8;
+    fn tusweram_row_finish(row: *const usize, room: *const u8, room_len: usize) -> u8;
+}
+
+pub fn row_begin(row: &mut Building, room: &mut [u8]) -> u8 {
+    unsafe { tusweram_row_begin(row.as_mut_ptr(), room.as_mut_ptr(), room.len()) }
+}
+
+pub fn row_append(row: &mut Building, room: &mut [u8], value: &[u8]) -> u8 {
+    unsafe { tusweram_row_append(row.as_mut_ptr(), room.as_mut_ptr(), room.len(), value.as_ptr(), value.len()) }
+}
+
+pub fn row_append_null(row: &mut Building, room: &mut [u8]) -> u8 {
+    unsafe { tusweram_row_append_null(row.as_mut_ptr(), room.as_mut_ptr(), room.len()) }
+}
+
+pub fn row_drop_last(row: &mut Building, room: &mut [u8]) -> u8 {
+    unsafe { tusweram_row_drop_last(row.as_mut_ptr(), room.as_mut_ptr(), room.len()) }
+}
+
+pub fn row_finish(row: &Building, room: &[u8]) -> u8 {
+    unsafe { tusweram_row_finish(row.as_ptr(), room.as_ptr(), room.len()) }
+}
+
+/// A call of a row that is built: 0, or the refusal's number.
+pub fn step(call: &Step, row: &mut Building, room: &mut [u8]) -> u8 {
+    match call {
+        Step::Begin => row_begin(row, room),
+        Step::Append(Some(value)) => row_append(row, room, value),
+        Step::Append(None) => row_append_null(row, room),
+        Step::DropLast => row_drop_last(row, room),
+        Step::Finish => row_finish(row, room),
     }
 }

@@ -1,10 +1,11 @@
-//! The inputs: generated, damaged and real, each handed to the run that judges it.
+//! The inputs: generated, damaged and real, and rows to be built, each handed to the run that judges it.
 
 pub mod contents;
 pub mod damaged;
 pub mod generated;
 mod random;
 pub mod real;
+mod rows;
 
 pub use random::Rng;
 
@@ -23,7 +24,10 @@ pub fn everything(run: &mut Run, count: u64, seed: u64, folder: &str) {
     generated::first_packets(run, alphabet);
     generated::boundaries(run, &mut r, if count > 2_000_000 { 8 } else { 1 });
     // one of these takes as long as thousands of others
-    generated::long_lists(run, &mut r.clone(), (count / 1_000_000).clamp(1, 50) as usize);
+    let turns = (count / 1_000_000).clamp(1, 50) as usize;
+    generated::long_lists(run, &mut r.clone(), turns);
+    rows::around_the_limits(run, &mut r.clone(), turns);
+    rows::histories(run, &mut r.clone(), count / 100);
     real::real_traffic(run, &mut r, &traffic, if count > 2_000_000 { 4 } else { 16 });
     // a third at least are random
     let count = count.max(run.cases + count / 3);

@@ -3,8 +3,10 @@
 mod differences;
 mod encoding;
 mod parts;
+mod rows;
 
 pub use differences::{judge, Case, Verdict};
+pub use rows::Place;
 
 use crate::fixed_list::FixedList;
 use crate::model::{self, framing, kind_of, numbers, Answer, Part};
@@ -29,6 +31,9 @@ pub struct Run {
     items: u64,
     encoded: u64,
     ours_encoded: u64,
+    /// The calls that build a row, and the refused ones by their number.
+    steps: u64,
+    steps_refused: BTreeMap<u8, u64>,
     sources: BTreeMap<&'static str, u64>,
     /// Encoding: how many contents were equal, or under which entry.
     written: BTreeMap<&'static str, u64>,
@@ -135,6 +140,7 @@ impl Run {
         for (e, n) in &self.written {
             println!("{n:>12}  {e}");
         }
+        self.end_of_rows();
         println!("decoding:");
         println!("{:>12}  equal", self.equal);
         println!("{:>12}  both refuse, for the same reason", self.both_refuse);

@@ -5,12 +5,14 @@ mod read;
 mod write;
 
 pub use kinds::{left_out, limit};
+pub use write::append;
 
 use crate::content::Content;
 use crate::model::{framing, numbered, Framing};
 use bytes::BytesMut;
 use pgwire::error::{PgWireError, PgWireResult};
 use pgwire::messages::cancel::CancelRequest;
+use pgwire::messages::data::DataRow;
 use pgwire::messages::SslNegotiationMetaMessage as Asked;
 use pgwire::messages::{DecodeContext, Message, PgWireBackendMessage as Back, PgWireFrontendMessage as Front, ProtocolVersion};
 use std::hint::black_box;
@@ -114,17 +116,27 @@ pub fn message(c: &Content) -> Option<Either> {
 
 /// What the Rust writes of a content; None where it has no form for it (text that is no UTF-8).
 pub fn encode(c: &Content) -> Option<Result<Vec<u8>, Seen>> {
-    let m = message(c)?;
+    message(c).map(|m| written(&m))
+}
+
+fn written(m: &Either) -> Result<Vec<u8>, Seen> {
     let mut out = BytesMut::new();
-    let done = caught(|| match &m {
+    let done = caught(|| match m {
         Either::Front(m) => m.encode(&mut out),
         Either::Back(m) => m.encode(&mut out),
     });
-    Some(match done {
+    match done {
         None => Err(Seen::Panicked),
         Some(Err(e)) => Err(Seen::Refused(name(&e))),
         Some(Ok(())) => Ok(out.to_vec()),
-    })
+    }
+}
+
+/// What the Rust writes of a row whose columns are given to it one by one.
+pub fn encode_columns(columns: &[Option<Vec<u8>>]) -> Result<Vec<u8>, Seen> {
+    let mut row = DataRow::default();
+    columns.iter().for_each(|column| append(&mut row, column.as_deref()));
+    written(&Either::Back(Back::DataRow(row)))
 }
 
 // ---- one call as it is, for the counting of instructions

@@ -1,8 +1,8 @@
 //! Fields as the parts of the Rust's messages; None where a text is no UTF-8, or a name stands there twice.
 
 use crate::content::{joined, Field};
-use bytes::{Bytes, BytesMut};
-use pgwire::messages::data::FieldDescription;
+use bytes::{BufMut, Bytes, BytesMut};
+use pgwire::messages::data::{DataRow, FieldDescription};
 use pgwire::messages::startup::Startup;
 
 pub fn utf8(f: &Field) -> Option<String> {
@@ -46,6 +46,18 @@ pub fn parameters(f: &Field) -> Vec<Option<Bytes>> {
 
 pub fn joined_values(f: &Field) -> BytesMut {
     BytesMut::from(&joined(values(f))[..])
+}
+
+/// One more column of a row, as the Rust has it built: the value behind its length, and the columns counted beside the bytes.
+pub fn append(row: &mut DataRow, column: Option<&[u8]>) {
+    match column {
+        None => row.data.put_i32(-1),
+        Some(value) => {
+            row.data.put_i32(value.len() as i32);
+            row.data.put_slice(value);
+        }
+    }
+    row.field_count += 1;
 }
 
 /// How many elements a list of formats or values has, as the Rust says it beside the list.
