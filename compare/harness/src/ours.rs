@@ -4,7 +4,7 @@ use crate::model::{numbered, Building, Given, Kind, Part, RowFieldGiven, Step};
 use tusweram::ffi::{self, Lists, Plain, Row};
 use tusweram::{FieldDescription, Span};
 
-pub use tusweram::ffi::{data_row, decode, element, field, pair, value};
+pub use tusweram::ffi::{data_row, decode, element, field, pair, row_append, row_append_null, row_begin, row_drop_last, row_finish, value};
 
 /// The item at a place of a frame, of a list whose items have no fixed size.
 pub fn item(list: Part, frame: &[u8], at: usize) -> Row {
@@ -89,36 +89,6 @@ fn field_description(f: &RowFieldGiven) -> FieldDescription {
         type_modifier: f.type_modifier,
         format_code: f.format_code,
     }
-}
-
-// ---- a row built column by column
-
-unsafe extern "C" {
-    fn tusweram_row_begin(row: *mut usize, room: *mut u8, room_len: usize) -> u8;
-    fn tusweram_row_append(row: *mut usize, room: *mut u8, room_len: usize, value: *const u8, value_len: usize) -> u8;
-    fn tusweram_row_append_null(row: *mut usize, room: *mut u8, room_len: usize) -> u8;
-    fn tusweram_row_drop_last(row: *mut usize, room: *mut u8, room_len: usize) -> u8;
-    fn tusweram_row_finish(row: *const usize, room: *const u8, room_len: usize) -> u8;
-}
-
-pub fn row_begin(row: &mut Building, room: &mut [u8]) -> u8 {
-    unsafe { tusweram_row_begin(row.as_mut_ptr(), room.as_mut_ptr(), room.len()) }
-}
-
-pub fn row_append(row: &mut Building, room: &mut [u8], value: &[u8]) -> u8 {
-    unsafe { tusweram_row_append(row.as_mut_ptr(), room.as_mut_ptr(), room.len(), value.as_ptr(), value.len()) }
-}
-
-pub fn row_append_null(row: &mut Building, room: &mut [u8]) -> u8 {
-    unsafe { tusweram_row_append_null(row.as_mut_ptr(), room.as_mut_ptr(), room.len()) }
-}
-
-pub fn row_drop_last(row: &mut Building, room: &mut [u8]) -> u8 {
-    unsafe { tusweram_row_drop_last(row.as_mut_ptr(), room.as_mut_ptr(), room.len()) }
-}
-
-pub fn row_finish(row: &Building, room: &[u8]) -> u8 {
-    unsafe { tusweram_row_finish(row.as_ptr(), room.as_ptr(), room.len()) }
 }
 
 /// A call of a row that is built: 0, or the refusal's number.
