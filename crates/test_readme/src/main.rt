@@ -4,6 +4,7 @@ use protocol::Decoded;
 use protocol::Element;
 use protocol::Encoded;
 use protocol::Message;
+use row_builder::Built;
 
 fn say(words: &[u8]) {
     io::write_all(STDOUT_FILENO, words);
@@ -59,6 +60,23 @@ fn write_and_read(query: &[u8]) {
     }
 }
 
+// Builds a row of one value in a room of 32 bytes, and prints the size of its frame and the value.
+fn build_row(value: &[u8]) {
+    let mut room = [0u8; 32];
+    let Built::Is(row) = row_builder::begin(&mut room) else {
+        say(b"no room for a row\n");
+        return;
+    };
+    match row_builder::append(row, &mut room, value) {
+        Built::Is(next) => {
+            io::print_decimal(STDOUT_FILENO, next.size as u64);
+            say(b" bytes\n");
+            print_value(&room, 0);
+        }
+        Built::Refused(number, place) => say_refused(number, place),
+    }
+}
+
 fn main() {
     print_query(b"P\0\0\0\x10\0SELECT 1\0\0\0");
     print_query(b"P\0\0\0\x10\0SELE");
@@ -70,4 +88,6 @@ fn main() {
     print_oid(b"S\0\0\0\x04");
     write_and_read(b"SELECT 2");
     write_and_read(b"a\0b");
+    build_row(b"4711");
+    build_row(b"pages of a whole month");
 }
