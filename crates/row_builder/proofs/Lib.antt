@@ -1,2 +1,4 @@
+pub mod Walks
 pub mod Standing
+pub mod Heads
 pub mod Rows

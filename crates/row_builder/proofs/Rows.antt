@@ -1,25 +1,19 @@
 -- What is known of the row that a call answers, and of the room that it leaves.
-use Prim.Native.Nat.{ℕ, zero, suc, _+_, _-_, _≤_, _<_}
-use mathlib.Core.Bool.{Bool, true, false, cond, _&&_, false≢true}
-use mathlib.Core.List.{List, [], _++_}
-use mathlib.Core.Option.{Option, some, none}
+use Prim.Native.Nat.{ℕ, _+_, _-_, _<_}
+use mathlib.Core.Bool.{true, _&&_}
+use mathlib.Core.List.{List}
+use mathlib.Core.Option.{some, none}
 use mathlib.Core.Path.{_≡_, refl, ap, sym, _∙_}
 use native.Mathlib.Omega.{arith}
-use borrow.Author.Tests.{ltb-true, leb-true, leb-false}
-use lib.Dec.{leb, ltb, eqb}
-use lib.IntN.{ℤ, pos, negsuc}
+use borrow.Author.Tests.{ltb-true}
+use lib.Dec.{ltb, eqb}
 use lib.ListN.{length, take, length-append}
 use lib.Seq.{length-take-le}
 use Rattle.protocol.specs.declared.Encoded.the-variants as N
 use Rattle.protocol.specs.declared.Encoded.{Encoded}
-use Rattle.protocol.specs.declared.Rules.{Rules}
-use Rattle.protocol.specs.declared.Span.{Span}
-use Rattle.protocol.specs.Bytes.{numberAt, signedOf}
-use Rattle.protocol.specs.Each.{Each}
-use Rattle.protocol.specs.Fields.{AtomSlot, most, signedCount, valueBytes}
-use Rattle.protocol.specs.Kinds.{dataRow, largeFrame, nullable}
-use Rattle.protocol.specs.Reading.{Read, got, bad, andThen, readNumber, readSigned, readValue, valueAt, passItems}
-use Rattle.protocol.specs.Refusals.{cut}
+use Rattle.protocol.specs.Fields.{most, signedCount, valueBytes}
+use Rattle.protocol.specs.Kinds.{dataRow, nullable}
+use Rattle.protocol.specs.Reading.{passItems}
 use Rattle.protocol.specs.Rules.{rulesOf}
 use Rattle.protocol.proofs.Basics.{and-left, and-right, first-chosen, second-chosen, length-be, zero-one}
 use Rattle.writers.specs.Writing.{write, verdictOf}
@@ -29,6 +23,7 @@ use Rattle.row_builder.specs.declared.Built.the-variants as B
 use Rattle.row_builder.specs.declared.Built.{Built}
 use Rattle.row_builder.specs.declared.Row.{Row}
 use Rattle.row_builder.proofs.Standing.{Fits, fits}
+use Rattle.row_builder.proofs.Walks.{pass-within}
 
 is-refused : {row : Row} {number place : ℕ} → B.Is row ≡ B.Refused number place → ⊥
 is-refused e = zero-one cc
@@ -82,41 +77,6 @@ value-long s = simp (length-append, length-be) refl
 pub null-long : length (valueBytes none) ≡ 4
 unfolding valueBytes
 null-long = simp length-be refl
-
--- ---- a walk stays within the frame, wherever it ends
-
-abbrev Between : ℕ → ℕ → ℕ → Type 0
-Between p q x = (p ≤ x) × (x ≤ q)
-
-module _ (f : List ℕ) (p : ℕ) (h : p ≤ length f) where
-  value-by : (q : ℕ) → p ≤ q → q ≤ length f → (z : ℤ) → Between p (length f) (placeOf (valueAt z f p q))
-  unfolding valueAt
-  value-by q low high (pos n) = by (leb (q + n) (length f)) refl
-    where
-      by : (t : Bool) → leb (q + n) (length f) ≡ t → Between p (length f) (placeOf {X = Option Span} (cond t (got (some (record { start = q; len = n })) (q + n)) (bad cut p)))
-      by true e = let l : q + n ≤ length f = leb-true _ _ e in (omega arith, l)
-      by false e = (omega arith, h)
-  value-by q low high (negsuc zero) = (low, high)
-  value-by q low high (negsuc (suc n)) = (omega arith, h)
-
-  value-within : Between p (length f) (placeOf (readValue f p))
-  unfolding readValue readNumber
-  value-within = by (leb (p + 4) (length f)) refl
-    where
-      by : (t : Bool) → leb (p + 4) (length f) ≡ t
-          → Between p (length f) (placeOf (andThen (andThen (cond t (got (numberAt 4 f p) (p + 4)) (bad cut p)) (λ n q. got (signedOf 4 n) q)) (λ z q. valueAt z f p q)))
-      by true e = value-by (p + 4) (omega arith) (leb-true _ _ e) _
-      by false e = (omega arith, h)
-
-pass-within : (rules : Rules) (f : List ℕ) (n p : ℕ) → p ≤ length f → Between p (length f) (placeOf (passItems rules nullable n f p))
-unfolding passItems
-pass-within rules f zero p h = (omega arith, h)
-pass-within rules f (suc n) p h = by (readValue f p) (value-within f p h) (pass-within rules f n)
-  where
-    by : (r : Read (Option Span)) → Between p (length f) (placeOf r) → ((q : ℕ) → q ≤ length f → Between q (length f) (placeOf (passItems rules nullable n f q)))
-        → Between p (length f) (placeOf (andThen {X = Each AtomSlot (nullable .atoms)} (andThen r (λ s q. got (record { 0 = s; 1 = tt }) q)) (λ s q. passItems rules nullable n f q)))
-    by (got v q) w further = let i = further q (w .1) in (omega (arith, w .0, i .0), i .1)
-    by (bad number place) w further = w
 
 -- a row with one column fewer
 pub dropped-is : (row : Row) (room : List ℕ) (next : Row) → dropOf row room ≡ B.Is next → Fits next room

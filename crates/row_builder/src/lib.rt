@@ -1,5 +1,5 @@
 // A row that is built column by column, at the start of a lent room. The caller keeps the row's count and size beside the room; each call
-// decodes the room first, and so takes any two numbers and any bytes.
+// looks first whether decoding the room gives that row, and so takes any two numbers and any bytes.
 ghost use Prim.Native.Nat.{_+_, _^_, _≤_, _<_};
 ghost use mathlib.Core.List.{[]};
 ghost use mathlib.Core.Option.{none, some};
@@ -9,13 +9,18 @@ ghost use Rattle.protocol.specs.Fields.{most, signedCount, valueBytes};
 ghost use Rattle.protocol.specs.Kinds.{largeFrame};
 ghost use Rattle.writers.specs.Writing.{write};
 ghost use Rattle.row_builder.specs.Building as B;
+ghost use Rattle.row_builder.specs.Steps as S;
+use codec::Byte;
 use codec::Cursor;
+use codec::Listed;
 use codec::Passed;
-use decode::decode;
-use protocol::Decoded;
+use envelope::Header;
+use envelope::TYPED_BODY;
+use envelope::typed;
+use protocol::Count;
 use protocol::Encoded;
-use protocol::Message;
 use protocol::data::MESSAGE_TYPE_BYTE_DATA_ROW;
+use protocol::kinds;
 use protocol::kinds::LARGE;
 use protocol::kinds::MOST_SIGNED;
 use protocol::refusal::NO_SUCH_ELEMENT;
@@ -38,24 +43,83 @@ pub enum Built {
     Refused(u8, usize),
 }
 
+// Where the last of a row's columns starts, and of a row without columns where the first would; or that the room does not begin with the row.
+enum LastColumn {
+    StartsAt(usize),
+    NoRow,
+}
+
 // An empty row's bytes: type byte, length word and count.
 const HEAD: usize = 7;
 
 // The length word that stands for NULL.
 const NULL: u32 = 4294967295;
 
+// The room begins with the type byte, the length and the count of the row: what decoding it looks at before its columns.
+fn headed(row: Row, room: &[u8]) -> bool
+    ensures { λ r. ⌜ r ≡ S.headed row (now (room .entry)) ⌝ }
+{
+    let c = Cursor { at: 0 };
+    let Byte::Is(type_byte, _) = c.byte(room) else {
+        return false;
+    };
+    if type_byte != MESSAGE_TYPE_BYTE_DATA_ROW {
+        return false;
+    }
+    let Header::Frame(end) = typed(room, kinds::DATA_ROW) else {
+        return false;
+    };
+    if end != row.size {
+        return false;
+    }
+    let c = Cursor { at: TYPED_BODY };
+    let Listed::Is(list, _) = c.count(Count::Signed, &room[..end], 4) else {
+        return false;
+    };
+    list.count == row.columns
+}
+
+// Past some columns of a frame, and past those behind them to the frame's end.
+fn walked(columns: usize, behind: usize, frame: &[u8]) -> LastColumn
+    ensures { λ r. ⌜ r ≡ S.walkOf columns behind (now (frame .entry)) ⌝ }
+{
+    let rules = rules_of(1);
+    let c = Cursor { at: HEAD };
+    let Passed::To(c) = c.pass_values(rules, frame, columns) else {
+        return LastColumn::NoRow;
+    };
+    let start = c.at;
+    let Passed::To(end) = c.pass_values(rules, frame, behind) else {
+        return LastColumn::NoRow;
+    };
+    if end.at == frame.len() {
+        return LastColumn::StartsAt(start);
+    }
+    LastColumn::NoRow
+}
+
+// What decoding the room would say of the row, in one walk that is told the last column's start.
+fn last_column(row: Row, room: &[u8]) -> LastColumn
+    ensures { λ r. ⌜ r ≡ S.lastColumnOf row (now (room .entry)) ⌝ }
+{
+    if headed(row, room) {
+        let frame = &room[..row.size];
+        if row.columns == 0 {
+            return walked(0, 0, frame);
+        }
+        return walked(row.columns - 1, 1, frame);
+    }
+    LastColumn::NoRow
+}
+
 // The room begins with a well-formed row of that count and size.
 fn stands(row: Row, room: &[u8]) -> bool
     ensures { λ r. ⌜ r ≡ B.stands row (now (room .entry)) ⌝ }
 {
-    let Decoded::Record(message, n) = decode(1, room) else {
+    let LastColumn::StartsAt(_) = last_column(row, room) else {
         return false;
     };
-    let Message::DataRow(decoded) = message else {
-        return false;
-    };
-    let list = decoded.data;
-    (list.count == row.columns) & (n == row.size)
+    true
 }
 
 fn row_of(columns: usize, sized: Encoded) -> Built
@@ -82,30 +146,18 @@ fn grown(row: Row, n: usize, room: &[u8]) -> Built
     Built::Refused(NOT_REPRESENTABLE, 0)
 }
 
-// Where the first columns of a row's frame end.
-fn columns_end(columns: usize, frame: &[u8]) -> usize
-    ensures { λ r. ⌜ r ≡ B.columnsEnd columns (now (frame .entry)) ⌝ }
-{
-    let c = Cursor { at: HEAD };
-    match c.pass_values(rules_of(1), frame, columns) {
-        Passed::To(c) => c.at,
-        Passed::Refused(_, place) => place,
-    }
-}
-
 // The row without its last column.
 fn shortened(row: Row, room: &[u8]) -> Built
     ensures { λ r. ⌜ r ≡ B.dropOf row (now (room .entry)) ⌝ }
 {
-    if stands(row, room) {
-        if row.columns == 0 {
-            return Built::Refused(NO_SUCH_ELEMENT, 0);
-        }
-        let columns = row.columns - 1;
-        let size = columns_end(columns, &room[..row.size]);
-        return Built::Is(Row { columns, size });
+    let LastColumn::StartsAt(size) = last_column(row, room) else {
+        return Built::Refused(NOT_REPRESENTABLE, 0);
+    };
+    if row.columns == 0 {
+        return Built::Refused(NO_SUCH_ELEMENT, 0);
     }
-    Built::Refused(NOT_REPRESENTABLE, 0)
+    let columns = row.columns - 1;
+    Built::Is(Row { columns, size })
 }
 
 // The type byte, the length word and the count of a row.

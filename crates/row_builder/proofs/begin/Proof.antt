@@ -1,6 +1,5 @@
 -- `row_builder::begin` meets its contract: the room for an empty row, and its head.
 use mathlib.Core.Path.{_≡_, refl, ap, sym, _∙_}
-use native.Mathlib.Omega.{arith}
 use borrow.Author.Needs.{needs}
 use denote.Ref.{now}
 use Rattle.protocol.specs.Kinds.{dataRow}

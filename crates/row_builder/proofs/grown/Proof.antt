@@ -1,7 +1,6 @@
 -- `row_builder::grown` meets its contract: the room is looked at first, and then the sizes.
 use Prim.Native.Nat.{_<_}
-use mathlib.Core.Bool.{false}
-use mathlib.Core.Path.{_≡_, refl, ap, sym, _∙_}
+use mathlib.Core.Path.{refl, ap, sym, _∙_}
 use native.Mathlib.Omega.{arith}
 use borrow.Author.Needs.{needs}
 use borrow.Author.Tests.{ltb-true}

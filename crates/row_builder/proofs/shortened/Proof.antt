@@ -1,42 +1,39 @@
--- `row_builder::shortened` meets its contract: the room is looked at first, and then the last column is looked for.
+-- `row_builder::shortened` meets its contract: the last column's start is the new size.
 use mathlib.Core.Path.{refl, sym, _∙_}
 use borrow.Author.Needs.{needs}
 use borrow.Author.Tests.{ne-eqb}
-use lib.Seq.{length-take-le}
 use Rattle.row_builder.specs.Building.{dropOf}
-use Rattle.row_builder.proofs.Standing.{fits}
+use Rattle.row_builder.proofs.Heads.{no-row, row-there}
 use Rattle.row_builder.proofs.shortened.Statement.{statement}
 use Rattle.row_builder.proofs.shortened.Tie as tie
 
 returns : tie.Need-returns
 unfolding dropOf
-returns c =
-    let t = c .before .before in
-    rw (sym (t .before .stands .ensures) ∙ t .if1 .taken, c .if2 .taken) refl
-
-slice-aggregate-columns-end : tie.Need-slice-aggregate-columns-end
-slice-aggregate-columns-end c =
-    let t = c .before .before .before .before in
-    sym (length-take-le _ _ (fits _ _ (sym (t .before .stands .ensures) ∙ t .if1 .taken) .within))
+returns c = rw (no-row _ _ (sym (c .before .before .last-column .ensures) ∙ c .enum-told .given .1)) refl
 
 returns-2 : tie.Need-returns-2
 unfolding dropOf
 returns-2 c =
-    let t = c .before .before .before .before .before in
-    rw (sym (t .before .stands .ensures) ∙ t .if1 .taken, ne-eqb _ _ (c .before .before .before .if2 .left), ← c .columns-end .ensures) refl
+    let t = c .before .before .before in
+    let r = row-there _ _ (sym (t .before .before .last-column .ensures) ∙ t .size .given .1) in
+    rw (r .0, c .if1 .taken) refl
 
 returns-3 : tie.Need-returns-3
 unfolding dropOf
-returns-3 c = rw (sym (c .before .stands .ensures) ∙ c .if1 .left) refl
+returns-3 c =
+    let i = c .before in
+    let t = i .before .before .before in
+    let r = row-there _ _ (sym (t .before .before .last-column .ensures) ∙ t .size .given .1) in
+    rw (r .0, ne-eqb _ _ (i .if1 .left), ← r .1) refl
 
 pub shortened-spec : {M : Type 1} → statement M
 shortened-spec =
     tie.close
     (tie.spec
     (λ c κs. search needs)
-    returns
     (λ c. search needs)
-    slice-aggregate-columns-end
-    (λ c κs. search needs)
+    (λ c. search needs)
+    returns
     returns-2
+    (λ c. search needs)
     returns-3)
