@@ -159,7 +159,7 @@ builder-exactly = exactly
 
 -- ---- refused, nothing changes
 
-left-kept : (b : Built) (p : ℕ) (xs room : List ℕ) → Unsuccessful (ofBuilt b) → leftBy b p xs room ≡ room
+pub left-kept : (b : Built) (p : ℕ) (xs room : List ℕ) → Unsuccessful (ofBuilt b) → leftBy b p xs room ≡ room
 unfolding leftBy
 left-kept b p xs room h = let r = built-unsuccessful b h in rw (r .2) refl
 

@@ -20,11 +20,12 @@ use Rattle.host_parts.specs.Reads.{LaysRow, rowOut, rowRead}
 use Rattle.reader.specs.Row.{ofRow, ReadsRow, placesIn, startsOf, lengthsOf, over}
 use Rattle.reader.specs.declared.row.Row.the-variants as R
 use Rattle.reader.specs.declared.row.Row.{Row}
-use Rattle.row_builder.specs.Building.{leftBy, ofBuilt}
+use Rattle.row_builder.specs.Building.{leftBy}
 use Rattle.row_builder.specs.declared.Built.the-variants as B
 use Rattle.row_builder.specs.declared.Built.{Built}
 use Rattle.lent.specs.Lent.{Building, Lists, Lent}
 use Rattle.laws.proofs.Answered.{encoded-unsuccessful, not-success}
+use Rattle.laws.proofs.BuilderExactly.{left-kept}
 
 -- ---- encoders
 
@@ -64,12 +65,7 @@ row-status (R.Refused number place) u = inr (number, place, refl)
 
 -- ---- rows that are built
 
-room-kept : (r : Built) (p : ℕ) (xs room : List ℕ) → Unsuccessful (ofBuilt r) → leftBy r p xs room ≡ room
-unfolding ofBuilt leftBy
-room-kept (B.Is row) p xs room u = absurd (not-success u)
-room-kept (B.Refused number place) p xs room u = refl
-
--- at the boundary, the numbers too
+-- at the boundary: the room, and the numbers too
 both-kept : (r : Built) (p : ℕ) (xs : List ℕ) (x : Building) → Unsuccessful (ofNumber (numberOf r)) → (rowNumbers r (x .row) ≡ x .row) × (leftBy r p xs (x .room) ≡ x .room)
 unfolding ofNumber leftBy
 both-kept (B.Is row) p xs x u = absurd (not-success u)
@@ -89,7 +85,7 @@ lent = record {
       let row = rowRead s (x .starts) (x .lengths) in
       let e = no-places row s x (row-status row (rw (h .answer) at u)) in
       same-lists x y (h .starts ∙ e .0) (h .lengths ∙ e .1);
-  «row_builder» = λ definition p xs room left r h u. h .1 ∙ room-kept r p xs room u;
+  «row_builder» = λ definition p xs room left r h u. h .1 ∙ left-kept r p xs room u;
   «tusweram_row» = λ definition p xs x y n h u.
       let e = both-kept (definition x) p xs x (rw (h .answer) at u) in
       same-building x y (h .row ∙ e .0) (h .room ∙ e .1);

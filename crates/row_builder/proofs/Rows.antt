@@ -1,5 +1,5 @@
 -- What is known of the row that a call answers, and of the room that it leaves.
-use Prim.Native.Nat.{ℕ, _+_, _-_, _<_}
+use Prim.Native.Nat.{ℕ, _+_, _-_, _≤_, _<_}
 use mathlib.Core.Bool.{true, _&&_}
 use mathlib.Core.List.{List}
 use mathlib.Core.Option.{some, none}
@@ -12,12 +12,13 @@ use lib.Seq.{length-take-le}
 use Rattle.protocol.specs.declared.Encoded.the-variants as N
 use Rattle.protocol.specs.declared.Encoded.{Encoded}
 use Rattle.protocol.specs.Fields.{most, signedCount, valueBytes}
-use Rattle.protocol.specs.Kinds.{dataRow, nullable}
+use Rattle.protocol.specs.Kinds.{dataRow, largeFrame, nullable}
 use Rattle.protocol.specs.Reading.{passItems}
 use Rattle.protocol.specs.Rules.{rulesOf}
 use Rattle.protocol.proofs.Basics.{and-left, and-right, first-chosen, second-chosen, length-be, zero-one}
-use Rattle.writers.specs.Writing.{write, verdictOf}
+use Rattle.writers.specs.Writing.{Put, Wrote, write, verdictOf}
 use Rattle.writers.proofs.Encoding.{room-by}
+use Rattle.writers.proofs.Puts.{same-size}
 use Rattle.row_builder.specs.Building.{beginOf, builtBy, columnsEnd, dropOf, growOf, headOf, leftBy, placeOf, stands}
 use Rattle.row_builder.specs.declared.Built.the-variants as B
 use Rattle.row_builder.specs.declared.Built.{Built}
@@ -68,6 +69,17 @@ grown-is row n room next e =
       size = size;
       fits = record { some = omega (arith, old .some); within = omega (arith, v .1, v .3); small = omega (arith, v .1, v .2); few = omega (arith, b .1) };
     }
+
+-- its last column is written: then its head may be
+module _ {row next : Row} {n at : ℕ} {room mid xs : List ℕ} (g : Grown row n room next) (w : Put true room (row .size) xs n mid at) where
+  wrote : Wrote room (row .size) xs n mid at
+  wrote = w .fits refl (omega (arith, g .size, g .fits .within))
+
+  pub column : mid ≡ write room (row .size) xs
+  column = wrote .bytes
+
+  pub head-fits : (7 ≤ next .size) × (next .size ≤ length mid) × (next .size ≤ largeFrame) × (next .columns ≤ most signedCount)
+  head-fits = let f = g .fits in (f .some, omega (arith, f .within, same-size wrote), f .small, f .few)
 
 -- a value, or NULL
 pub value-long : (s : List ℕ) → length (valueBytes (some s)) ≡ 4 + length s

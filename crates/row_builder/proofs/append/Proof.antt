@@ -1,17 +1,16 @@
 -- `row_builder::append` meets its contract: the longer row first, then its last column, then its head.
 use Prim.Native.Nat.{_+_}
 use mathlib.Core.Option.{some}
-use mathlib.Core.Path.{_≡_, refl, sym, _∙_}
+use mathlib.Core.Path.{_≡_, sym, _∙_}
 use native.Mathlib.Omega.{arith}
 use borrow.Author.Needs.{needs}
 use denote.Ref.{now}
 use lib.ListN.{length}
 use Rattle.protocol.specs.Fields.{valueBytes}
-use Rattle.writers.proofs.Puts.{same-size}
 use Rattle.row_builder.specs.Building.{appendOf}
 use Rattle.row_builder.specs.declared.Built.the-variants as B
 use Rattle.row_builder.specs.declared.Row.{Row}
-use Rattle.row_builder.proofs.Rows.{Grown, done, grown-is, refused, value-long}
+use Rattle.row_builder.proofs.Rows.{Grown, column, done, grown-is, head-fits, refused, value-long}
 use Rattle.row_builder.proofs.append.Statement.{statement}
 use Rattle.row_builder.proofs.append.Tie as tie
 
@@ -41,10 +40,7 @@ put-row-head-requires : tie.Need-put-row-head-requires
 put-row-head-requires c κs =
     let p = c .before .before .before in
     let r = p .before .before .before in
-    let g = longer (r .before .before) _ (r .r .given .1) in
-    let f = g .fits in
-    let w = p .put-value .ensures .fits refl (omega (arith, g .size, f .within)) in
-    (f .some, omega (arith, f .within, same-size w), f .small, f .few)
+    head-fits (longer (r .before .before) _ (r .r .given .1)) (p .put-value .ensures)
 
 returns-2 : tie.Need-returns-2
 unfolding valueBytes
@@ -52,9 +48,7 @@ returns-2 c =
     let h = c .before .before in
     let p = h .before .before .before .before in
     let r = p .before .before .before in
-    let g = longer (r .before .before) _ (r .r .given .1) in
-    let w = p .put-value .ensures .fits refl (omega (arith, g .size, g .fits .within)) in
-    done _ _ _ (says (r .before .before)) (r .r .given .1) (w .bytes) (h .put-row-head .ensures)
+    done _ _ _ (says (r .before .before)) (r .r .given .1) (column (longer (r .before .before) _ (r .r .given .1)) (p .put-value .ensures)) (h .put-row-head .ensures)
 
 pub append-spec : {M : Type 1} → statement M
 append-spec =

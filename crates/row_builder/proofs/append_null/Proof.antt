@@ -1,16 +1,14 @@
 -- `row_builder::append_null` meets its contract, as `append` does.
 use mathlib.Core.Option.{none}
-use mathlib.Core.Path.{_≡_, refl, sym, _∙_}
-use native.Mathlib.Omega.{arith}
+use mathlib.Core.Path.{_≡_, sym, _∙_}
 use borrow.Author.Needs.{needs}
 use denote.Ref.{now}
 use Rattle.protocol.specs.Bytes.{bitsOf}
 use Rattle.protocol.specs.Fields.{valueBytes}
-use Rattle.writers.proofs.Puts.{same-size}
 use Rattle.row_builder.specs.Building.{appendOf}
 use Rattle.row_builder.specs.declared.Built.the-variants as B
 use Rattle.row_builder.specs.declared.Row.{Row}
-use Rattle.row_builder.proofs.Rows.{Grown, done, grown-is, null-long, refused}
+use Rattle.row_builder.proofs.Rows.{Grown, column, done, grown-is, head-fits, null-long, refused}
 use Rattle.row_builder.proofs.append_null.Statement.{statement}
 use Rattle.row_builder.proofs.append_null.Tie as tie
 
@@ -30,10 +28,7 @@ put-row-head-requires : tie.Need-put-row-head-requires
 put-row-head-requires c κs =
     let p = c .before .before .before in
     let r = p .before .before .before in
-    let g = longer (r .before .before) _ (r .r .given .1) in
-    let f = g .fits in
-    let w = p .put-word .ensures .fits refl (omega (arith, g .size, f .within)) in
-    (f .some, omega (arith, f .within, same-size w), f .small, f .few)
+    head-fits (longer (r .before .before) _ (r .r .given .1)) (p .put-word .ensures)
 
 returns-2 : tie.Need-returns-2
 unfolding valueBytes bitsOf
@@ -41,9 +36,7 @@ returns-2 c =
     let h = c .before .before in
     let p = h .before .before .before .before in
     let r = p .before .before .before in
-    let g = longer (r .before .before) _ (r .r .given .1) in
-    let w = p .put-word .ensures .fits refl (omega (arith, g .size, g .fits .within)) in
-    done _ _ _ (says (r .before .before)) (r .r .given .1) (w .bytes) (h .put-row-head .ensures)
+    done _ _ _ (says (r .before .before)) (r .r .given .1) (column (longer (r .before .before) _ (r .r .given .1)) (p .put-word .ensures)) (h .put-row-head .ensures)
 
 pub append-null-spec : {M : Type 1} → statement M
 append-null-spec =
