@@ -1,7 +1,7 @@
 -- Each answer of the builder, of any stored numbers and any bytes; and that a refused call leaves the room, row and columns.
 use Prim.Native.Nat.{ℕ, _+_, _-_, _≤_, _<_}
 use mathlib.Core.Bool.{Bool, true, false, cond, _&&_}
-use mathlib.Core.List.{List}
+use mathlib.Core.List.{List, [], _∷_, _++_}
 use mathlib.Core.Logic.{_↔_, _⊎_, inl, inr}
 use mathlib.Core.Path.{_≡_, refl, ap, sym, _∙_}
 use native.Mathlib.Omega.{arith}
@@ -21,13 +21,16 @@ use Rattle.row_builder.specs.declared.Built.the-variants as B
 use Rattle.row_builder.specs.declared.Built.{Built}
 use Rattle.row_builder.specs.declared.Row.{Row}
 use Rattle.writers.specs.Writing.{verdictOf}
-use Rattle.laws.specs.BuilderStatements.{Column, Standing, theBuilder, BuildsExactly, BuilderExactly, KeepsTheRoom, append, dropLast, finish, LeavesAll}
+use Rattle.laws.specs.BuilderStatements.{Column, Stands, Standing, theBuilder, BuildsExactly, BuilderExactly, KeepsTheRoom, append, dropLast, finish, LeavesAll}
 use Rattle.laws.proofs.Answered.{built, built-refused, built-unsuccessful}
-use Rattle.laws.proofs.Building.{judged-row}
-use Rattle.laws.proofs.Columns.{frame-long}
+use Rattle.laws.proofs.Building.{dropped, judged-row}
+use Rattle.laws.proofs.Columns.{Ends, empty, last, ends, frame-long, stored}
 use Rattle.laws.proofs.Encoding.{yes, no, same, through, says-refused, says-done, Judged}
 use Rattle.laws.proofs.Items.{both}
 use Rattle.laws.proofs.Standing.{stands-true, standing, not-standing}
+
+refused-is : {row : Row} {number place : ℕ} → B.Refused number place ≡ B.Is row → ⊥
+refused-is e = zero-one cc
 
 -- ---- an answer, by its verdict
 
@@ -119,6 +122,23 @@ module _ (row : Row) (room : List ℕ) (c : Column) (b : Bytes room) where
       let s = standing row room b e in
       (no (λ h. zero-one cc) (λ h. h s), no (λ h. zero-one cc) (λ h. eqb-false _ _ f (h .1)))
 
+  -- the row that a drop gives
+  abbrev Dropped : Row → Type 0
+  Dropped next = (cs : List Column) × (d : Column) × Stands row room (cs ++ d ∷ []) × (next ≡ stored cs)
+
+  drop-ends : {cs : List Column} (next : Row) → Ends cs → Stands row room cs → dropOf row room ≡ B.Is next → Dropped next
+  unfolding dropOf
+  drop-ends next empty s e = let r = dropping (stands row room) (eqb (row .columns) 0) refl refl _ .1 .1 (([], s), s .columns) in absurd (refused-is (sym r ∙ e))
+  drop-ends next (last cs d) s e = let is = sym e ∙ dropped row room cs d s in (cs, d, s, cc)
+
+  drop-found : (next : Row) (t : Bool) → stands row room ≡ t → dropOf row room ≡ B.Is next → Dropped next
+  unfolding dropOf
+  drop-found next true t e = let s = standing row room b t in drop-ends next (ends (s .0)) (s .1) e
+  drop-found next false t e = let r = rw t at e in absurd (refused-is r)
+
+  drop-done : (next : Row) → (dropOf row room ≡ B.Is next) ↔ Dropped next
+  drop-done next = (drop-found next (stands row room) refl, λ h. dropped row room (h .0) (h .1) (h .2) ∙ ap B.Is (sym (h .3)))
+
   finishing : (t : Bool) → stands row room ≡ t
       → let r = cond t (N.Done (row .size)) (N.Refused notRepresentable 0) in
       ((r ≡ N.Refused notRepresentable 0) ↔ (Standing row room → ⊥)) × ((j : ℕ) → (r ≡ N.Done j) ↔ (Standing row room × (j ≡ row .size)))
@@ -150,6 +170,7 @@ module _ (row : Row) (room : List ℕ) (c : Column) (b : Bytes room) where
             );
         dropTen = through built-no (d .0);
         dropEleven = through built-no (d .1);
+        dropped = λ next. through built-yes (drop-done next);
         finishTen = through says-refused (f .0);
         finished = λ j. through says-done (f .1 j);
       }

@@ -167,8 +167,14 @@ module _ (row : Row) (room : List ℕ) (cs : List Column) (c : Column) where
       let q : passItems (rulesOf 1) nullable (length cs) (rowFrame more) 7 ≡ got tt (length (rowFrame cs)) = rw (length-items cs, ← f, head-long (stored more), ← frame-long cs) at p in
       rw q refl
 
+  pub dropped : Stands row room more → dropOf row room ≡ B.Is (stored cs)
+  unfolding dropOf
+  dropped s =
+      let n : row .columns - 1 ≡ length cs = omega (arith, s .columns, many) in
+      rw (stands-true s, ne-eqb (row .columns) 0 (λ e. omega (arith, e, s .columns, many)), n, s .bytes, columns-end (right (s .wellFormed))) refl
+
   drops : Stands row room more → theBuilder .dropLast row room ≡ encoded theEncoder cs room
-  unfolding dropOf builtBy
+  unfolding builtBy
   drops s = outcome-is cs 0 [] room answer left
     where
       g : List ℕ
@@ -189,8 +195,7 @@ module _ (row : Row) (room : List ℕ) (cs : List Column) (c : Column) where
           let r = right (s .wellFormed) in
           let d : verdict cs room ≡ N.Done (length (rowFrame cs)) = fits cs room (length (rowFrame cs)) .1
           (record { few = omega (arith, r .few, many); small = omega (arith, r .small, longer, frame-long cs, frame-long more); there = there; size = refl }) in
-          let n : row .columns - 1 ≡ length cs = omega (arith, s .columns, many) in
-          rw (stands-true s, ne-eqb (row .columns) 0 (λ e. omega (arith, e, s .columns, many)), n, s .bytes, columns-end r, d) refl
+          dropped s ∙ rw d refl
 
       left : length (rowFrame cs) ≤ length room → write room 0 (headOf (stored cs)) ≡ rowFrame cs ++ drop (length (rowFrame cs)) room
       left h =

@@ -103,6 +103,9 @@ pub record BuildsExactly (builder : Builder) (row : Row) (room : List ℕ) (c : 
       × (next ≡ record { columns = row .columns + 1; size = row .size + length (valueBytes c) }))
   pub dropTen : (ofBuilt (builder .dropLast row room .answer) ≡ refusal notRepresentable 0) ↔ (Standing row room → ⊥)
   pub dropEleven : (ofBuilt (builder .dropLast row room .answer) ≡ refusal noSuchElement 0) ↔ (Standing row room × (row .columns ≡ 0))
+  pub dropped : (next : Row)
+      → (ofBuilt (builder .dropLast row room .answer) ≡ success next 0)
+      ↔ ((cs : List Column) × (d : Column) × Stands row room (cs ++ d ∷ []) × (next ≡ record { columns = length cs; size = length (rowFrame cs) }))
   pub finishTen : (ofEncoded (builder .finish row room) ≡ refusal notRepresentable 0) ↔ (Standing row room → ⊥)
   pub finished : (n : ℕ) → (ofEncoded (builder .finish row room) ≡ success tt n) ↔ (Standing row room × (n ≡ row .size))
 
