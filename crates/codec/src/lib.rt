@@ -1,6 +1,8 @@
 // The cursor over one frame, as codec.rs reads a buffer: it goes in by value and comes back advanced, or the answer is a fault.
 // The frame ends where the lent slice ends, so nothing past it can be read.
 // Its functions are inner: for crates of this library alone (docs/INNER.md). The answers' types are a frame reader's too.
+#![tactic(auto)]
+
 ghost use Rattle.std.specs.Prelude.{◌+◌, ◌*◌, ◌/◌, ◌%◌, ◌^◌, ◌≤◌, ◌<◌, ◌≡◌, ltb, get_or, length};
 ghost use Rattle.protocol.specs.Bytes.{number_at, signed_of};
 ghost use Rattle.protocol.specs.Fields.{most, text};
@@ -18,38 +20,38 @@ use scan::zero_from;
 // The largest count that is not negative, as its two bytes are read.
 const MOST: u16 = MOST_SIGNED as u16;
 
-#[derive(Drop)]
+#[derive(Clone, Copy)]
 pub struct Cursor {
     pub at: usize,
 }
 
 // Each step answers the field with the next cursor, or the fault. The fault's place is where the field begins.
-#[derive(Drop)]
+#[derive(Clone, Copy)]
 pub enum Byte {
     Is(u8, Cursor),
     Cut,
 }
 
-#[derive(Drop)]
+#[derive(Clone, Copy)]
 pub enum Half {
     Is(u16, Cursor),
     Cut,
 }
 
-#[derive(Drop)]
+#[derive(Clone, Copy)]
 pub enum Word {
     Is(u32, Cursor),
     Cut,
 }
 
 // A missing zero byte is a cut string, never an empty one.
-#[derive(Drop)]
+#[derive(Clone, Copy)]
 pub enum Text {
     Is(Span, Cursor),
     Cut,
 }
 
-#[derive(Drop)]
+#[derive(Clone, Copy)]
 pub enum Value {
     Is(Span, Cursor),
     Null(Cursor),
@@ -58,7 +60,7 @@ pub enum Value {
 }
 
 // A list's faults are several, so they come with number and place.
-#[derive(Drop)]
+#[derive(Clone, Copy)]
 pub enum Listed {
     Is(List, Cursor),
     Refused(u8, usize),
@@ -106,7 +108,7 @@ fn negative(reading: Count, count: u16) -> bool
 }
 
 // Past some elements, or the first one's fault.
-#[derive(Drop)]
+#[derive(Clone, Copy)]
 pub enum Passed {
     To(Cursor),
     Refused(u8, usize),

@@ -1,4 +1,6 @@
 // Decoding one message from a lent buffer.
+#![tactic(auto)]
+
 ghost use Rattle.std.specs.Prelude.{◌≡◌};
 ghost use Rattle.protocol.specs.Bytes.{part_of};
 ghost use Rattle.protocol.specs.Decode.{decode_of};

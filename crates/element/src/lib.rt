@@ -1,4 +1,6 @@
 // Elements of lists: one item of one list of the frame at a buffer's start.
+#![tactic(auto)]
+
 ghost use Rattle.std.specs.Prelude.{◌*◌, ◌+◌, ◌≤◌, ◌≡◌, length};
 ghost use Rattle.protocol.specs.Elements.{element_at, element_by, element_of, read_item_at, value_or};
 ghost use Rattle.protocol.specs.Kinds as K;

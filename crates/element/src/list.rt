@@ -9,7 +9,7 @@ use protocol::extendedquery::Bind;
 use protocol::{List, Message};
 
 // A sort of item.
-#[derive(Drop)]
+#[derive(Clone, Copy)]
 pub enum Sort {
     Oid,
     Format,
@@ -20,7 +20,7 @@ pub enum Sort {
 }
 
 // A list with the sort of its items, or that there is none.
-#[derive(Drop)]
+#[derive(Clone, Copy)]
 pub enum OneList {
     Is(Sort, List),
     NoList,

@@ -1,4 +1,6 @@
 // An encoder for each kind, in the module of its Rust file. Everything is checked before the first byte is written.
+#![tactic(auto)]
+
 pub mod cancel;
 pub mod copy;
 pub mod data;

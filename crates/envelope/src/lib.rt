@@ -1,5 +1,7 @@
 // What stands around a body, in the order of docs/FORMAT.md 3: the length, checked by the kind's line, before it, and nothing behind it.
 // Inner: for crates of this library alone (docs/INNER.md).
+#![tactic(auto)]
+
 ghost use Rattle.std.specs.Prelude.{[], ◌≡◌, length};
 ghost use Rattle.protocol.specs.Bytes.{signed_of};
 ghost use Rattle.protocol.specs.Decode.{closed, decoded_by};
@@ -17,7 +19,7 @@ pub const TYPED_BODY: usize = 5;
 pub const UNTYPED_BODY: usize = 8;
 
 // Where the frame ends, need-more, or a refusal's number and place.
-#[derive(Drop)]
+#[derive(Clone, Copy)]
 pub enum Header {
     Frame(usize),
     NeedMore,

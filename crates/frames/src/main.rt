@@ -1,4 +1,6 @@
 // Prints the listing of standard input: a digit for the mode, then the stream.
+#![tactic(auto)]
+
 use libc::{STDIN_FILENO, STDOUT_FILENO};
 use listing::Left;
 

@@ -12,7 +12,7 @@ use protocol::refusal::CUT;
 use protocol::{Count, Rules};
 
 // A field of a row's description with the next cursor, or the place where it is cut.
-#[derive(Drop)]
+#[derive(Clone, Copy)]
 pub enum FieldStep {
     Is(FieldDescription, Cursor),
     Cut(usize),

@@ -12,7 +12,7 @@ use protocol::refusal::CUT;
 use protocol::{List, Rules};
 
 // The items of such a list.
-#[derive(Drop)]
+#[derive(Clone, Copy)]
 pub enum Item {
     ErrorField,
     Pair,
@@ -45,7 +45,7 @@ pub fn pass_items(rules: Rules, frame: &[u8], c: Cursor, count: usize, item: Ite
 }
 
 // How the walk to the zero byte ends: there, with how many items and the next cursor; at the frame's end; or in an item that is cut.
-#[derive(Drop)]
+#[derive(Clone, Copy)]
 enum Outcome {
     Ended(usize, Cursor),
     NoEnd(usize),

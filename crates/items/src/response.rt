@@ -10,7 +10,7 @@ use protocol::refusal::CUT;
 use protocol::{Rules, Span};
 
 // One field of an error, its code and its string with the next cursor, or the place where it is cut.
-#[derive(Drop)]
+#[derive(Clone, Copy)]
 pub enum ErrorStep {
     Is(u8, Span, Cursor),
     Cut(usize),

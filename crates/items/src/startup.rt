@@ -10,7 +10,7 @@ use protocol::refusal::CUT;
 use protocol::{Rules, Span};
 
 // A name and its value with the next cursor, or the place where one of them is cut.
-#[derive(Drop)]
+#[derive(Clone, Copy)]
 pub enum PairStep {
     Is(Span, Span, Cursor),
     Cut(usize),

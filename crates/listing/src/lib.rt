@@ -1,4 +1,6 @@
 // The listing of a stream of frames: a line for each frame, and the end that follows them.
+#![tactic(auto)]
+
 ghost use Rattle.std.specs.Prelude.{◌+◌, ◌/◌, ◌≤◌, ◌≡◌, drop, length};
 ghost use Rattle.protocol.specs.Rules.{rules_of};
 ghost use Rattle.protocol.specs.Stream.{step_at};
@@ -16,7 +18,7 @@ use writers::put_bytes;
 pub const MOST: usize = 65536;
 
 // What the start of an input says: the mode, or that it names none, or that too many bytes follow it.
-#[derive(Drop)]
+#[derive(Clone, Copy)]
 pub enum Opening {
     Mode(u8),
     NoMode,
@@ -24,7 +26,7 @@ pub enum Opening {
 }
 
 // What stands at a place of a stream: a frame's message and its bytes, or how the stream ends.
-#[derive(Drop)]
+#[derive(Clone, Copy)]
 pub enum Step {
     Frame(Message, usize),
     Whole,
@@ -33,7 +35,7 @@ pub enum Step {
 }
 
 // What is left of a listing: all of it, the lines from a place of the stream on, or nothing.
-#[derive(Drop)]
+#[derive(Clone, Copy)]
 pub enum Left {
     All,
     From(usize),
@@ -41,7 +43,7 @@ pub enum Left {
 }
 
 // How many bytes were written, and what is left.
-#[derive(Drop)]
+#[derive(Clone, Copy)]
 pub struct Filled {
     pub count: usize,
     pub left: Left,
@@ -92,7 +94,7 @@ pub fn opening_of(input: &[u8]) -> Opening
 }
 
 // Where a line ends in the output, and what is left after it.
-#[derive(Drop)]
+#[derive(Clone, Copy)]
 struct Line {
     end: usize,
     left: Left,

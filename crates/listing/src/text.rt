@@ -5,7 +5,7 @@ ghost use Rattle.listing.specs.Text.{Wrote, decimal};
 use writers::put_bytes;
 
 // A number's digits, the last in the last place.
-#[derive(Drop)]
+#[derive(Clone, Copy)]
 struct Digits {
     letters: [u8; 20],
     first: usize,

@@ -48,7 +48,7 @@ pub fn copy_fail(rules: Rules, buf: &[u8]) -> Decoded
 }
 
 // Which of the three responses whose body is a format and the columns' formats.
-#[derive(Drop)]
+#[derive(Clone, Copy)]
 enum Direction {
     In,
     Out,

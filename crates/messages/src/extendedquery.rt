@@ -46,7 +46,7 @@ pub fn parse_complete(rules: Rules, buf: &[u8]) -> Decoded
 }
 
 // Which of the two kinds whose body is a target byte and a name.
-#[derive(Drop)]
+#[derive(Clone, Copy)]
 enum Act {
     Close,
     Describe,

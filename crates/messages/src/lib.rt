@@ -1,5 +1,7 @@
 // A decoder for each kind, in the module of its Rust file: of a buffer whose tag has told the kind, the length by the kind's line, then the body.
 // Inner: for crates of this library alone (docs/INNER.md).
+#![tactic(auto)]
+
 pub mod cancel;
 pub mod copy;
 pub mod data;

@@ -51,11 +51,13 @@ All P [] = Unit {0}
 All P (x ∷ xs) = P x × All P xs
 
 pub in_all : {A : Type 0} (P : A → Type 0) (xs : List A) → All P xs → (x : A) → IsIn x xs → P x
+in_all {A = A} P [] h x x4 = elim x4 [ ]
 in_all P (y ∷ ys) h x (inl e) = rw e h.0
 in_all P (y ∷ ys) h x (inr i) = in_all P ys h.1 x i
 
 -- and a test that passes of each passes of it
 pub every_in : {A : Type 0} (test : A → Bool) (xs : List A) → T (every test xs) → (x : A) → IsIn x xs → T (test x)
+every_in {A = A} test [] t x x4 = elim x4 [ ]
 every_in test (y ∷ ys) t x (inl e) = rw e (left_holds (test y) (every test ys) t)
 every_in test (y ∷ ys) t x (inr i) = every_in test ys (right_holds (test y) (every test ys) t) x i
 

@@ -1,7 +1,7 @@
 // The request to cancel, as in cancel.rs. The secret key has four bytes.
 use crate::kinds;
 
-#[derive(Drop)]
+#[derive(Clone, Copy)]
 pub struct CancelRequest {
     pub pid: i32,
     pub secret_key: i32,

@@ -13,29 +13,29 @@ pub const MESSAGE_TYPE_BYTE_COPY_OUT_RESPONSE: u8 = kinds::COPY_OUT_RESPONSE.1 a
 
 pub const MESSAGE_TYPE_BYTE_COPY_BOTH_RESPONSE: u8 = kinds::COPY_BOTH_RESPONSE.1 as u8;
 
-#[derive(Drop)]
+#[derive(Clone, Copy)]
 pub struct CopyData {
     pub data: Span,
 }
 
-#[derive(Drop)]
+#[derive(Clone, Copy)]
 pub struct CopyFail {
     pub message: Span,
 }
 
-#[derive(Drop)]
+#[derive(Clone, Copy)]
 pub struct CopyInResponse {
     pub format: i8,
     pub column_formats: List,
 }
 
-#[derive(Drop)]
+#[derive(Clone, Copy)]
 pub struct CopyOutResponse {
     pub format: i8,
     pub column_formats: List,
 }
 
-#[derive(Drop)]
+#[derive(Clone, Copy)]
 pub struct CopyBothResponse {
     pub format: i8,
     pub column_formats: List,

@@ -42,14 +42,14 @@ pub fn is_target(byte: u8) -> bool
     }
 }
 
-#[derive(Drop)]
+#[derive(Clone, Copy)]
 pub struct Parse {
     pub name: Span,
     pub query: Span,
     pub type_oids: List,
 }
 
-#[derive(Drop)]
+#[derive(Clone, Copy)]
 pub struct Bind {
     pub portal_name: Span,
     pub statement_name: Span,
@@ -58,19 +58,19 @@ pub struct Bind {
     pub result_column_format_codes: List,
 }
 
-#[derive(Drop)]
+#[derive(Clone, Copy)]
 pub struct Close {
     pub target_type: u8,
     pub name: Span,
 }
 
-#[derive(Drop)]
+#[derive(Clone, Copy)]
 pub struct Describe {
     pub target_type: u8,
     pub name: Span,
 }
 
-#[derive(Drop)]
+#[derive(Clone, Copy)]
 pub struct Execute {
     pub name: Span,
     pub max_rows: i32,

@@ -11,7 +11,7 @@ pub const LARGE: u32 = 1048576;
 pub const SMALL: u32 = 8192;
 
 // A line, of the parts named above. The name is filled up with spaces.
-#[derive(Drop)]
+#[derive(Clone, Copy)]
 pub struct Line(pub [u8; 20], pub u32, pub u32, pub u32, pub u8);
 
 // ---- from the frontend, mode 0

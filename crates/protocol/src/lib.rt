@@ -1,4 +1,6 @@
 // The types of every answer, by value, and the constants, in modules named as the Rust's files.
+#![tactic(auto)]
+
 ghost use Rattle.std.specs.Prelude.{◌≡◌};
 ghost use Rattle.protocol.specs.Rules.{rules_of};
 
@@ -28,28 +30,28 @@ use startup::{BackendKeyData, ParameterStatus, Startup};
 // A string, a value or a rest: its first byte, counted from the frame's first, and its length. A string's zero byte and a
 // value's length word are not part of it.
 #[repr(C)]
-#[derive(Drop)]
+#[derive(Clone, Copy)]
 pub struct Span {
     pub start: usize,
     pub len: usize,
 }
 
 // A list: where its first element stands, or would stand where it is empty, and how many it has.
-#[derive(Drop)]
+#[derive(Clone, Copy)]
 pub struct List {
     pub start: usize,
     pub count: usize,
 }
 
 // How the two bytes of a list's count are read. A list's row says which.
-#[derive(Drop)]
+#[derive(Clone, Copy)]
 pub enum Count {
     Signed,
     Unsigned,
 }
 
 // What a frame is read by: the mode. A version or a check of texts is a further field here.
-#[derive(Drop)]
+#[derive(Clone, Copy)]
 pub struct Rules {
     pub mode: u8,
 }
@@ -62,7 +64,7 @@ pub fn rules_of(mode: u8) -> Rules
 
 // A message, under the Rust's names. The kinds with no field hold nothing. The variants stand in the order of the kinds' numbers (specs Kinds), by which
 // proofs know their places.
-#[derive(Drop)]
+#[derive(Clone, Copy)]
 pub enum Message {
     Parse(Parse),
     Bind(Bind),
@@ -104,7 +106,7 @@ pub enum Message {
 }
 
 // What decoding answers: the record and the bytes consumed, need-more, or a refusal's number and place.
-#[derive(Drop)]
+#[derive(Clone, Copy)]
 pub enum Decoded {
     Record(Message, usize),
     NeedMore,
@@ -112,7 +114,7 @@ pub enum Decoded {
 }
 
 // What an element call answers: the element, need-more, or a refusal's number and place.
-#[derive(Drop)]
+#[derive(Clone, Copy)]
 pub enum Element {
     Oid(u32),
     Format(i16),
@@ -128,7 +130,7 @@ pub enum Element {
 }
 
 // What an encoder answers: the bytes written, or a refusal's number and place.
-#[derive(Drop)]
+#[derive(Clone, Copy)]
 pub enum Encoded {
     Done(usize),
     Refused(u8, usize),

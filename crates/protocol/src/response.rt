@@ -35,27 +35,27 @@ pub fn is_status(byte: u8) -> bool
     }
 }
 
-#[derive(Drop)]
+#[derive(Clone, Copy)]
 pub struct CommandComplete {
     pub tag: Span,
 }
 
-#[derive(Drop)]
+#[derive(Clone, Copy)]
 pub struct ReadyForQuery {
     pub status: u8,
 }
 
-#[derive(Drop)]
+#[derive(Clone, Copy)]
 pub struct ErrorResponse {
     pub fields: List,
 }
 
-#[derive(Drop)]
+#[derive(Clone, Copy)]
 pub struct NoticeResponse {
     pub fields: List,
 }
 
-#[derive(Drop)]
+#[derive(Clone, Copy)]
 pub struct NotificationResponse {
     pub pid: i32,
     pub channel: Span,
@@ -63,7 +63,7 @@ pub struct NotificationResponse {
 }
 
 // The answer to a request for TLS: one byte and nothing else.
-#[derive(Drop)]
+#[derive(Clone, Copy)]
 pub enum SslResponse {
     Accept,
     Refuse,
@@ -78,7 +78,7 @@ impl SslResponse {
 }
 
 // The answer to a request for GSS encryption: one byte and nothing else.
-#[derive(Drop)]
+#[derive(Clone, Copy)]
 pub enum GssEncResponse {
     Accept,
     Refuse,

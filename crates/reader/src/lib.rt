@@ -1,5 +1,7 @@
 // A frame reader that keeps a reference to the frame's bytes, for hosts that read field after field. Each thin function takes the
 // reader apart and leaves the work to a function over a plain slice and a place, which calls the cursor.
+#![tactic(auto)]
+
 ghost use Rattle.std.specs.Prelude.{◌≡◌};
 ghost use Rattle.protocol.specs.Reading.{read_number, read_text, read_value};
 ghost use Rattle.codec.specs.CursorRead.{byte_read, half_read, text_read, value_read, word_read};
@@ -9,7 +11,7 @@ pub mod row;
 use codec::{Byte, Cursor, Half, Text, Value, Word};
 use protocol::rules_of;
 
-#[derive(Drop)]
+#[derive(Clone, Copy)]
 pub struct FrameReader<'a> {
     pub frame: &'a [u8],
     pub at: usize,

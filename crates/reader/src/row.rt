@@ -12,7 +12,7 @@ use protocol::refusal::{NO_SUCH_ELEMENT, OUTPUT_TOO_SHORT};
 use protocol::{Decoded, List, Message, kinds};
 
 // What the row's values are and the bytes consumed, need-more, or a refusal's number and place.
-#[derive(Drop)]
+#[derive(Clone, Copy)]
 pub enum Row {
     Is(List, usize),
     NeedMore,
@@ -20,7 +20,7 @@ pub enum Row {
 }
 
 // A value's start, its length (-1 for NULL) and the next place; or that no value can be read.
-#[derive(Drop)]
+#[derive(Clone, Copy)]
 pub enum Entry {
     Is(usize, i32, usize),
     Stop,

@@ -1,5 +1,7 @@
 // A row that is built column by column, at the start of a lent room. The caller keeps the row's count and size beside the room; each call
 // looks first whether decoding the room gives that row, and so takes any two numbers and any bytes.
+#![tactic(auto)]
+
 ghost use Rattle.std.specs.Prelude.{◌+◌, ◌^◌, ◌≤◌, ◌<◌, [], ◌≡◌, length};
 ghost use Rattle.std.proofs.Math.Option.{none, some};
 ghost use Rattle.protocol.specs.Fields.{most, signed_count, value_bytes};
@@ -17,20 +19,20 @@ use protocol::{Count, Encoded, kinds, rules_of};
 use writers::{put_half, put_head, put_value, put_word, verdict};
 
 // The columns so far, and the size of their frame with its type byte.
-#[derive(Drop)]
+#[derive(Clone, Copy)]
 pub struct Row {
     pub columns: usize,
     pub size: usize,
 }
 
-#[derive(Drop)]
+#[derive(Clone, Copy)]
 pub enum Built {
     Is(Row),
     Refused(u8, usize),
 }
 
 // Where the last of a row's columns starts, and of a row without columns where the first would; or that the room does not begin with the row.
-#[derive(Drop)]
+#[derive(Clone, Copy)]
 enum LastColumn {
     StartsAt(usize),
     NoRow,

@@ -1,5 +1,7 @@
 // A row's fields, each with its name in a lent run of bytes: one pass over them measures, and the same pass writes.
 // Inner: for crates of this library alone (docs/INNER.md).
+#![tactic(auto)]
+
 ghost use Rattle.std.specs.Prelude.{◌+◌, ◌≤◌, [], ◌++◌, ◌∷◌, ◌≡◌, drop, length, take};
 ghost use Rattle.protocol.specs.Encode.{row_field_given};
 ghost use Rattle.protocol.specs.Fields.{item_bytes};
@@ -13,7 +15,7 @@ use protocol::kinds::{LARGE, MOST_SIGNED};
 use writers::{bits16, bits32, no_zero, plus, put_half, put_head, put_pairs, put_text, verdict};
 
 // How far a pass is: the next byte's place, whether every name so far can be written, and whether the pass writes.
-#[derive(Drop)]
+#[derive(Clone, Copy)]
 pub struct Pass {
     pub at: usize,
     pub ok: bool,

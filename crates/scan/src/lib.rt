@@ -1,6 +1,8 @@
 // The scan for a zero byte. Whole blocks are looked at before single bytes, since the compiler makes vector compares of a loop with no
 // early exit; what is found is what the plain scan finds.
 // Inner: for crates of this library alone (docs/INNER.md).
+#![tactic(auto)]
+
 ghost use Rattle.std.specs.Prelude.{◌+◌, ◌≤◌, ◌<◌, true, ◌≡◌, length};
 ghost use Rattle.scan.specs.Zero.{Passed, zero_from};
 

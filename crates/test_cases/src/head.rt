@@ -5,7 +5,7 @@ ghost use Rattle.std.specs.Prelude.{◌≤◌, length};
 const LARGEST: usize = 18446744073709551615;
 
 // The last two numbers before the colon, 0 where there is none, and where the bytes begin.
-#[derive(Drop)]
+#[derive(Clone, Copy)]
 pub struct Head {
     pub first: usize,
     pub second: usize,

@@ -1,5 +1,7 @@
 // What the test programs share: words and numbers on standard output, bytes in hexadecimal digits, and the lines of an input.
 // It is no part of the library. That its functions are safe and end is proved; what they write is compared when the programs are run.
+#![tactic(auto)]
+
 pub mod head;
 
 ghost use Rattle.std.specs.Prelude.{◌≤◌, min, length};
@@ -87,7 +89,7 @@ pub fn digit(letter: u8) -> u8 {
 }
 
 // What a space and two digits give.
-#[derive(Drop)]
+#[derive(Clone, Copy)]
 enum Byte {
     Is(u8),
     Malformed,
@@ -109,7 +111,7 @@ fn pair(space: u8, high: u8, low: u8) -> Byte {
 }
 
 // How many bytes were given.
-#[derive(Drop)]
+#[derive(Clone, Copy)]
 pub enum Bytes {
     Of(usize),
     Malformed,

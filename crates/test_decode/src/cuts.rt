@@ -6,7 +6,7 @@ use crate::hex::ROOM;
 use protocol::Decoded;
 
 // What decode answers of a frame that is cut. A whole record has consumed all its bytes.
-#[derive(Drop)]
+#[derive(Clone, Copy)]
 enum Verdict {
     Whole,
     Strange(usize),

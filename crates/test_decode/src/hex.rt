@@ -10,7 +10,7 @@ pub fn first(frame: &[u8; ROOM], count: usize) -> &[u8] {
 }
 
 // The mode and how many bytes were given.
-#[derive(Drop)]
+#[derive(Clone, Copy)]
 pub enum Case {
     Of(u8, usize),
     Malformed,

@@ -1,4 +1,6 @@
 // The edges of the format, run: each line of the input is a case in text, and is written back with what decode or an element call answers.
+#![tactic(auto)]
+
 mod cuts;
 mod elements;
 mod hex;

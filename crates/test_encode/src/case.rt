@@ -40,7 +40,7 @@ const MALFORMED: usize = 10;
 // More than any number that fits.
 const TOO_LARGE: usize = 99999999999;
 
-#[derive(Drop)]
+#[derive(Clone, Copy)]
 pub struct Case {
     // What is being read, and how many numbers it has so far.
     pub section: usize,

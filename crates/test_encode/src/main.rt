@@ -1,5 +1,7 @@
 // Encoders, run: each line of the input is a case in text, and is written back with what its encoder answers, how many bytes the output has,
 // and all of them after the call. The boundary's function is called too, on an output of its own: where it differs, WRONG is written.
+#![tactic(auto)]
+
 mod boundary;
 mod calls;
 mod case;

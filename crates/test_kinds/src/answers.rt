@@ -6,7 +6,7 @@ use protocol::kinds::Line;
 use test_cases::{write, write_number, write_refused};
 
 // What decode answers, of a record only the bytes consumed.
-#[derive(Drop)]
+#[derive(Clone, Copy)]
 pub enum Answer {
     Record(usize),
     NeedMore,

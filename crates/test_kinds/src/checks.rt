@@ -11,7 +11,7 @@ const LINES: usize = 16;
 const CODES: usize = 6 * LINES;
 
 // How many were tried, how many of them are in the table, and how many are not decoded as it says.
-#[derive(Drop)]
+#[derive(Clone, Copy)]
 struct Tally {
     tried: usize,
     in_table: usize,

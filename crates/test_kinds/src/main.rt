@@ -1,6 +1,8 @@
 // The tables of kinds as the code holds them, printed line by line; and decoding, held to them: every type byte and answer byte, and the codes with their
 // neighbours, at each kind's smallest length and limit and one past them. stdout is written by hand from docs/FORMAT.md 4 and the numbers of
 // protocol/specs Kinds, and .ci/kinds holds to it every other place that says the same.
+#![tactic(auto)]
+
 mod answers;
 mod checks;
 mod tables;

@@ -1,5 +1,7 @@
 // The listing's library function, run: each argument is a comment, or an input in hexadecimal digits whose listing is printed in
 // pages of one line; and inputs of full size, of whose listings the number of bytes, their sum and the last line are printed.
+#![tactic(auto)]
+
 ghost use Rattle.std.specs.Prelude.{◌≤◌};
 
 use libc::STDOUT_FILENO;

@@ -17,7 +17,7 @@ use test_cases::{write, write_number};
 const ROOM: usize = 262160;
 
 // The list that is long; all others of its frame are empty.
-#[derive(Drop)]
+#[derive(Clone, Copy)]
 enum Which {
     TypeOids,
     ParameterFormatCodes,

@@ -1,5 +1,7 @@
 // Lists of more than 32,767 elements. A count of two bytes tells up to 65,535 where it is unsigned: then the lists are written, decoded and read
 // (`lists`), and a Bind of 40,000 values is read in one pass (`values`). Where it is signed, a set top bit is still refused (`signed`).
+#![tactic(auto)]
+
 mod answers;
 mod given;
 mod lists;

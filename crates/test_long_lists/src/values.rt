@@ -80,7 +80,7 @@ fn is_given(frame: &[u8], i: usize, value: Span) -> bool {
 }
 
 // The place behind a value, and whether it is the one that was given; or that no value can be read.
-#[derive(Drop)]
+#[derive(Clone, Copy)]
 enum Step {
     To(usize, bool),
     Stop,
@@ -96,7 +96,7 @@ fn value_step(frame: &[u8], at: usize, i: usize) -> Step {
 }
 
 // How many values are as they were given, and where the pass ended.
-#[derive(Drop)]
+#[derive(Clone, Copy)]
 struct Pass {
     right: usize,
     end: usize,

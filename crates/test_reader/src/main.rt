@@ -1,5 +1,7 @@
 // Every public function of the crate reader, run: each line of the input is a case in text, and is written back with what the functions
 // answer.
+#![tactic(auto)]
+
 mod case;
 mod rows;
 mod steps;

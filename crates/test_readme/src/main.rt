@@ -1,4 +1,6 @@
 // How to call the library: README shows this code, and the gate runs it.
+#![tactic(auto)]
+
 use libc::STDOUT_FILENO;
 use protocol::{Decoded, Element, Encoded, Message};
 use row_builder::Built;

@@ -19,7 +19,7 @@ const IN_NUMBERS: u8 = 2;
 
 const MALFORMED: u8 = 3;
 
-#[derive(Drop)]
+#[derive(Clone, Copy)]
 pub struct Case {
     // What is being read.
     pub part: u8,

@@ -1,5 +1,7 @@
 // The fixed list of the comparison with the Rust, run through the library: each line holds a case, the numbers that docs/FORMAT.md says, worked out
 // by the comparison's model, and, where the library does not refuse, what the Rust answered. The library's numbers are compared with both.
+#![tactic(auto)]
+
 mod case;
 
 use case::{BOTH, Case, ROOM, ROW};
@@ -61,7 +63,7 @@ fn next(n: usize) -> usize {
 }
 
 // How far the list is read: the line that is being read, how many are, and how many of them do not hold.
-#[derive(Drop)]
+#[derive(Clone, Copy)]
 struct Tally {
     case: Case,
     lines: usize,

@@ -9,7 +9,7 @@ use test_cases::{Bytes, write};
 const ROOM: usize = 64;
 
 // What the caller keeps beside the room: how many of its bytes are lent, and the row.
-#[derive(Drop)]
+#[derive(Clone, Copy)]
 struct Kept {
     lent: usize,
     row: Row,

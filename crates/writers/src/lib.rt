@@ -1,6 +1,8 @@
 // Writers of the fields of a frame: each writes at a place of the output and answers the place after it, or writes nothing and answers
 // the place that it was given. And what comes before any write: sizes that cannot wrap, the scan for zero bytes, and the answer.
 // Inner: for crates of this library alone (docs/INNER.md).
+#![tactic(auto)]
+
 pub mod errors;
 pub mod texts;
 pub mod values;
