@@ -125,11 +125,11 @@ module _ (rules : Rules) (e : Envelope) (l : Line) (xs : List Field) (make : Eac
   begin_made f = record { is = rw (← is, f) refl }
 
   -- none
-  pub none_made : OneOf (1 ∷ 2 ∷ []) (tag_of HT.the_type h) → unframed_of h ≡ decode_made rules e l xs make s
+  pub none_made : ((end : ℕ) → h ≡ H.Frame end → ⊥) → unframed_of h ≡ decode_made rules e l xs make s
   none_made o = by h o is
     where
-      by : (h : Header) → OneOf (1 ∷ 2 ∷ []) (tag_of HT.the_type h) → h ≡ end_in e l s → unframed_of h ≡ decode_made rules e l xs make s
-      by (H.Frame end) o is = absurd (miss (1 ∷ 2 ∷ []) 0 tt o)
+      by : (h : Header) → ((end : ℕ) → h ≡ H.Frame end → ⊥) → h ≡ end_in e l s → unframed_of h ≡ decode_made rules e l xs make s
+      by (H.Frame end) o is = absurd (o end refl)
       by H.NeedMore o is = rw (← is) refl
       by (H.Refused number place) o is = rw (← is) refl
 
@@ -137,7 +137,7 @@ module _ (rules : Rules) (e : Envelope) (k : Kind) (s : List ℕ) {h : Header} (
   pub begin : {end : ℕ} → h ≡ H.Frame end → Left rules (take end s) (decode_as rules e k s) k.body k.message (body_start e)
   begin f = record { is = (begin_made rules e (line_of k) k.body k.message s is f).is ∙ made_as rules e k s }
 
-  pub none : OneOf (1 ∷ 2 ∷ []) (tag_of HT.the_type h) → unframed_of h ≡ decode_as rules e k s
+  pub none : ((end : ℕ) → h ≡ H.Frame end → ⊥) → unframed_of h ≡ decode_as rules e k s
   none o = none_made rules e (line_of k) k.body k.message s is o ∙ made_as rules e k s
 
 -- a whole frame ends within the buffer

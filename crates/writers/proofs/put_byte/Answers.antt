@@ -1,0 +1,16 @@
+-- `writers::put_byte` meets its contract.
+use mathlib.Core.Bool.{true}
+use native.Mathlib.Omega.{arith}
+use borrow.Author.Rules.{rules}
+use Rattle.writers.proofs.Puts.{has_room, put, kept}
+use Rattle.writers.proofs.put_byte.Goals as goal
+
+pub store_byte-requires : goal.store_byte-requires
+store_byte-requires c = let a = c.args in
+    omega (arith, (has_room true a.at 1 c.room.ensures c.if-room.true).1)
+
+pub returns-then-room : goal.returns-then-room
+returns-then-room c = put c.room.ensures c.if-room.true c.store_byte.ensures
+
+pub returns : goal.returns
+returns c = kept c.room.ensures c.if-room.false

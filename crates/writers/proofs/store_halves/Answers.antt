@@ -1,0 +1,32 @@
+-- `writers::store_halves` meets its contract.
+use Prim.Native.Nat.{ℕ, ◌+◌, ◌*◌, ◌-◌, ◌≤◌}
+use mathlib.Core.List.{List}
+use mathlib.Core.Path.{◌≡◌, ap, ◌∙◌, sym}
+use native.Mathlib.Omega.{arith}
+use borrow.Author.Rules.{rules}
+use lib.IntN.{ℤ}
+use lib.ListN.{length, drop}
+use Rattle.protocol.specs.Encode.{items}
+use Rattle.protocol.specs.Fields.{items_bytes}
+use Rattle.protocol.specs.Kinds.{format}
+use Rattle.writers.specs.Writing.{write}
+use Rattle.writers.proofs.Laws.{turn, drop-end}
+use Rattle.writers.proofs.Lists.{halves_more, length_halves}
+use Rattle.writers.proofs.store_halves.Goals as goal
+use Rattle.writers.proofs.store_halves.Invariants.{all}
+
+pub loop-i-preserved : goal.loop-i-preserved
+loop-i-preserved c = let q = c.loop-i in
+    let xs = c.args.xs.now in
+    let more = ap (write q.out q.p) (sym (halves_more xs q.i (omega arith) c.bits16-arg-1.given c.bits16.ensures)) in
+    (search rules, search rules, search rules, turn (all (drop (q.i + 1) xs)) c.store_half-p.ensures (more ∙ q.invariant.3))
+
+pub returns : goal.returns
+unfolding items_bytes
+returns c = let q = c.loop-i in
+    let xs = c.args.xs.now in
+    record {
+      bytes = ap (λ (l : List ℤ). write q.out q.p (all l)) (sym (drop-end xs q.i c.loop-i-test.false)) ∙ q.invariant.3;
+      size = length_halves xs;
+      place = omega arith;
+    }

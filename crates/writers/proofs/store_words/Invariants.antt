@@ -1,0 +1,24 @@
+-- The loop of `writers::store_words`.
+use Prim.Native.Nat.{ℕ, ◌+◌, ◌*◌, ◌-◌, ◌≤◌}
+use mathlib.Core.List.{List}
+use mathlib.Core.Path.{◌≡◌, ap, ◌∙◌, sym}
+use native.Mathlib.Omega.{arith}
+use borrow.Author.Rules.{rules}
+use lib.ListN.{length, drop}
+use Rattle.protocol.specs.Encode.{items}
+use Rattle.protocol.specs.Fields.{items_bytes}
+use Rattle.protocol.specs.Kinds.{oid}
+use Rattle.writers.specs.Writing.{write}
+use Rattle.writers.proofs.Laws.{turn, drop-end}
+use Rattle.writers.proofs.Lists.{words_more, length_words}
+use Rattle.writers.proofs.store_words.Given as goal
+
+abbrev pub all : List ℕ → List ℕ
+all xs = items_bytes oid (items xs)
+
+abbrev pub invariant-loop-i : goal.invariant-loop-i
+invariant-loop-i l =
+    (l.i ≤ length l.xs) × (l.p ≡ l.at + 4 * l.i) × (length l.out ≡ length l.initial.out) × (write l.out l.p (all (drop l.i l.xs)) ≡ write l.initial.out l.at (all l.xs))
+
+abbrev pub decreases-loop-i : goal.decreases-loop-i
+decreases-loop-i l = length l.xs - l.i
