@@ -78,4 +78,4 @@ returns c =
     let left-6 : Left c.args.rules c.args.frame.now c.args.c.at (signed 4 ∷ signed 2 ∷ []) (λ ss. row_field_of (c.in-Is.name, ((signed_of 4 c.in-Is-word.table), ((signed_of 2 c.in-Is-half.column), (c.in-Is-word-2.type_id, ((signed_of 2 c.in-Is-half-2.size), ss)))))) c.in-Is-half-2.c.at = on (left-5) (signed_got 2 (ap (half_read c.in-Is-word-2.c.at) (sym c.in-Is-half-2.is) ∙ c.half-2.ensures)) in
     let left-7 : Left c.args.rules c.args.frame.now c.args.c.at (signed 2 ∷ []) (λ ss. row_field_of (c.in-Is.name, ((signed_of 4 c.in-Is-word.table), ((signed_of 2 c.in-Is-half.column), (c.in-Is-word-2.type_id, ((signed_of 2 c.in-Is-half-2.size), ((signed_of 4 c.in-Is-word-3.modifier), ss))))))) c.in-Is-word-3.c.at = on (left-6) (signed_got 4 (ap (word_read c.in-Is-half-2.c.at) (sym c.in-Is-word-3.is) ∙ c.word-3.ensures)) in
     let left-8 : Left c.args.rules c.args.frame.now c.args.c.at [] (λ _. row_field_of (c.in-Is.name, ((signed_of 4 c.in-Is-word.table), ((signed_of 2 c.in-Is-half.column), (c.in-Is-word-2.type_id, ((signed_of 2 c.in-Is-half-2.size), ((signed_of 4 c.in-Is-word-3.modifier), ((signed_of 2 c.in-Is-half-3.format), tt)))))))) c.in-Is-half-3.c.at = on (left-7) (signed_got 2 (ap (half_read c.in-Is-word-3.c.at) (sym c.in-Is-half-3.is) ∙ c.half-3.ensures)) in
-    rw (back w32 c.signed32.result c.signed32.type-inv, back w16 c.signed16.result c.signed16.type-inv, back w16 c.signed16-2.result c.signed16-2.type-inv, back w32 c.signed32-2.result c.signed32-2.type-inv, back w16 c.signed16-3.result c.signed16-3.type-inv, c.signed32.ensures, c.signed16.ensures, c.signed16-2.ensures, c.signed32-2.ensures, c.signed16-3.ensures) left-8.is
+    rw (back w32 c.signed32.result c.signed32.type_inv, back w16 c.signed16.result c.signed16.type_inv, back w16 c.signed16-2.result c.signed16-2.type_inv, back w32 c.signed32-2.result c.signed32-2.type_inv, back w16 c.signed16-3.result c.signed16-3.type_inv, c.signed32.ensures, c.signed16.ensures, c.signed16-2.ensures, c.signed32-2.ensures, c.signed16-3.ensures) left-8.is

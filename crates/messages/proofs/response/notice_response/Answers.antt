@@ -1,0 +1,24 @@
+-- `messages::response::notice_response` meets its contract: at each point, what is left to read is what there was at first.
+use mathlib.Core.Path.{ap, sym, ◌∙◌}
+use borrow.Author.Rules.{rules}
+use Rattle.protocol.specs.Kinds.{typed, notice_response}
+use Rattle.codec.specs.CursorRead.{listed_read}
+use Rattle.envelope.specs.Steps.{refusal_of}
+use Rattle.envelope.proofs.Points.{on, off, done, begin, none, ends}
+use Rattle.messages.proofs.response.notice_response.Goals as goal
+
+pub returns-in_default : goal.returns-in_default
+unfolding notice_response
+returns-in_default c = c.unframed.ensures ∙ none _ typed notice_response c.args.buf.now c.typed-header.ensures c.in_default.not-Frame
+
+pub slice_bounds-frame-end : goal.slice_bounds-frame-end
+slice_bounds-frame-end c = sym (ends typed _ _ c.typed-header.ensures c.in-Frame.is)
+
+pub returns-in_default-listed : goal.returns-in_default-listed
+unfolding notice_response
+returns-in_default-listed c = c.refused.ensures ∙ ap refusal_of c.in_default-listed.is
+    ∙ off (begin _ typed notice_response _ c.typed-header.ensures c.in-Frame.is) (ap listed_read (sym c.in_default-listed.is) ∙ c.items-listed.ensures)
+
+pub returns : goal.returns
+unfolding notice_response
+returns c = done (on (begin _ typed notice_response _ c.typed-header.ensures c.in-Frame.is) (ap listed_read (sym c.in-Is.is) ∙ c.items-listed.ensures)) c.finished.ensures
