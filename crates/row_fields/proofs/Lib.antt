@@ -1,4 +1,3 @@
-pub mod Again
 pub mod Fields
 pub mod Roomy
 pub mod Whole

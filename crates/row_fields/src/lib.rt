@@ -105,7 +105,7 @@ fn step(c: Pass, f: FieldDescription, run: &[u8], out: &mut [u8]) -> Pass
     }
 }
 
-// A pass over all fields. Walked by hand: a lent slice of structs is read.
+// A pass over all fields.
 pub fn each(fields: &[FieldDescription], run: &[u8], out: &mut [u8], c: Pass) -> Pass
     ensures { (result ≡ P.all_pass fields.now run.now c)
         × (out.new ≡ P.all_out fields.now run.now out.old c) }

@@ -6,39 +6,20 @@ use borrow.Author.Rules.{rules}
 use borrow.Author.Tests.{lt-ltb, le-ltb}
 use lib.ListN.{length, take, drop}
 use Rattle.protocol.specs.Bytes.{part_of}
-use Rattle.decode.proofs.part.Statement.{statement}
-use Rattle.decode.proofs.part.Tie as tie
+use Rattle.decode.proofs.part.Goals as goal
 
-returns : tie.Need-returns
+pub returns-then-buf-start : goal.returns-then-buf-start
 unfolding part_of
-returns c =
-    let a = c.before.before.args in
+returns-then-buf-start c = let a = c.args in
     rw (lt-ltb (length a.buf.now) (a.start + a.len) (omega arith)) refl
 
-returns-2 : tie.Need-returns-2
+pub returns-then-buf-start-2 : goal.returns-then-buf-start-2
 unfolding part_of
-returns-2 c =
-    let a = c.before.before.before.args in
+returns-then-buf-start-2 c = let a = c.args in
     rw (lt-ltb (length a.buf.now) (a.start + a.len) (omega arith)) refl
 
-returns-3 : tie.Need-returns-3
+pub returns : goal.returns
 unfolding part_of
-returns-3 c =
-    let a = c.before.before.before.args in
+returns c = let a = c.args in
     let len : a.start + a.len - a.start ≡ a.len = omega arith in
     rw (le-ltb (length a.buf.now) (a.start + a.len) (omega arith)) (ap (λ (n : ℕ). take n (drop a.start a.buf.now)) len)
-
-pub part-spec : {M : Type 1} → statement M
-part-spec =
-    tie.close
-    (tie.spec
-    (λ c. search rules)
-    returns
-    (λ c. search rules)
-    (λ c. search rules)
-    returns-2
-    (λ c. search rules)
-    (λ c. search rules)
-    (λ c. search rules)
-    (λ c. search rules)
-    returns-3)
