@@ -14,22 +14,22 @@ use Rattle.row_fields.proofs.begin.Goals as goal
 pub returns-in_default : goal.returns-in_default
 unfolding begun
 returns-in_default c =
-    let says : let a = c.args in c.verdict-r.result ≡ answered a.decreases a.count (length a.out.now) = rw (← c.plus-size.ensures) c.verdict-r.ensures in
+    let says : let a = c.args in c.verdict-r.result ≡ answered a.measured a.count (length a.out.now) = rw (← c.plus-size.ensures) c.verdict-r.ensures in
     (says, rw c.in_default.is refl)
 
 pub overflow_cast-count : goal.overflow_cast-count
 overflow_cast-count c =
-    let says : let a = c.args in c.verdict-r.result ≡ answered a.decreases a.count (length a.out.now) = rw (← c.plus-size.ensures) c.verdict-r.ensures in
+    let says : let a = c.args in c.verdict-r.result ≡ answered a.measured a.count (length a.out.now) = rw (← c.plus-size.ensures) c.verdict-r.ensures in
     let a = c.args in
-    let h = roomy_of a.decreases a.count (length a.out.now) _ (sym says ∙ c.in-Done.is) in
+    let h = roomy_of a.measured a.count (length a.out.now) _ (sym says ∙ c.in-Done.is) in
     omega (arith, h.few)
 
 pub returns : goal.returns
 unfolding begun row_description
 returns c =
-    let says : let a = c.args in c.verdict-r.result ≡ answered a.decreases a.count (length a.out.now) = rw (← c.plus-size.ensures) c.verdict-r.ensures in
+    let says : let a = c.args in c.verdict-r.result ≡ answered a.measured a.count (length a.out.now) = rw (← c.plus-size.ensures) c.verdict-r.ensures in
     let a = c.args in
-    let h = roomy_of a.decreases a.count (length a.out.now) _ (sym says ∙ c.in-Done.is) in
+    let h = roomy_of a.measured a.count (length a.out.now) _ (sym says ∙ c.in-Done.is) in
     let e = headed c.put_head-at.ensures (omega (arith, h.whole)) h.fits h.small in
     let w = c.put_half.ensures.fits refl (omega (arith, h.whole, h.fits, e.place)) in
     (sym c.in-Done.is ∙ says, w.bytes ∙ (λ j. write (e.bytes j) (e.place j) (be 2 a.count)))
