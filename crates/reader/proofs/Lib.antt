@@ -1,4 +1,2 @@
-pub mod Claims
-pub mod Thin
 pub mod RowRoom
 pub mod Places

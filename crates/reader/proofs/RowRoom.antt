@@ -1,6 +1,6 @@
 -- When a message is no row, and when there is room for one.
 use Prim.Native.Nat.{ℕ, ◌≤◌, ◌<◌}
-use mathlib.Core.Bool.{Bool, true, false, cond, not, ◌&&◌, ◌||◌, and-false, false≢true}
+use mathlib.Core.Bool.{Bool, true, false, cond, not, ◌&&◌, ◌||◌, and-false}
 use mathlib.Core.List.{List, [], ◌∷◌}
 use mathlib.Core.Logic.{◌⊎◌, inl, inr}
 use mathlib.Core.Option.{Option, some, none}
@@ -10,8 +10,6 @@ use borrow.Author.Tests.{leb-true, le-leb, lt-leb}
 use lib.Dec.{T, eqb, leb}
 use lib.IntN.{ℤ}
 use lib.ListN.{length}
-use types.Run.{OneOf}
-use denote.Enum.Declared.{tag_of}
 use Rattle.protocol.specs.declared.Decoded.TheVariants as D
 use Rattle.protocol.specs.declared.Decoded.{Decoded}
 use Rattle.protocol.specs.declared.Message.TheVariants as M
@@ -27,15 +25,13 @@ use Rattle.protocol.specs.Views.{view, kind_number, is_kind, numbered}
 use Rattle.protocol.proofs.Find.{All}
 use Rattle.protocol.proofs.Framed.{record_size}
 use Rattle.protocol.proofs.Basics.{zero_one}
-use Rattle.protocol.specs.contracts.Message as Msg
-use Rattle.protocol.proofs.Views.{made, each_row, places, passes}
+use Rattle.protocol.proofs.Views.{made, each_row}
 use Rattle.protocol.specs.Decode.{decode_of}
 use Rattle.protocol.specs.Refusals.{no_such_element, output_too_short}
 use Rattle.protocol.specs.Rules.{rules_of}
 use Rattle.reader.specs.declared.row.Row.TheVariants as R
 use Rattle.reader.specs.declared.row.Row.{Row}
 use Rattle.reader.specs.Row.{ReadsRow, row_by, row_fits, row_in}
-use Rattle.reader.specs.contracts.row.Row as RT
 
 -- ---- which message is a row
 
@@ -43,18 +39,6 @@ use Rattle.reader.specs.contracts.row.Row as RT
 pub row_in_lem : (r : DataRow) → row_in (M.DataRow r) ≡ some r.«data»
 unfolding row_in is_kind list_of list_in view data_row
 row_in_lem r = refl
-
--- no other kind has its number
-abbrev no_row : Kind → Bool
-no_row k = not (eqb (kind_number data_row) (kind_number k))
-
-no_row_by : (t : Bool) (x : Option ListSlot) → T (not t) → cond t x none ≡ none
-no_row_by true x h = absurd h
-no_row_by false x h = refl
-
-no_row_lem : (m : Message) → OneOf (places no_row) (tag_of Msg.the_type m) → row_in m ≡ none
-unfolding the_table find numbered row_in is_kind
-no_row_lem m h = no_row_by (is_kind data_row m) _ (passes no_row (search tt depth 60 fits 5000) m h)
 
 -- so a message that is a row is a DataRow
 abbrev If : Bool → Type 0 → Type 0
@@ -75,6 +59,21 @@ of_row s = (record { «data» = s.0 }, refl)
 row_made : (k : Kind) (s : Each Slot k.body) → k ≡ data_row → (row : DataRow) × (k.message s ≡ M.DataRow row)
 row_made k s e = subst (λ (k : Kind). (s : Each Slot k.body) → (row : DataRow) × (k.message s ≡ M.DataRow row)) (sym e) of_row s
 
+row_of_kind : (m : Message) → is_kind data_row m ≡ true → (row : DataRow) × (m ≡ M.DataRow row)
+unfolding is_kind
+row_of_kind m e =
+    let w = row_made (view m).kind (view m).slots (subst (λ (t : Bool). If t ((view m).kind ≡ data_row)) e (each_row RowKind row_kinds m)) in
+    (w.0, sym (made m) ∙ w.1)
+
+-- and one that is no DataRow has no row
+no_row_lem : (m : Message) → ((r : DataRow) → m ≡ M.DataRow r → ⊥) → row_in m ≡ none
+unfolding row_in
+no_row_lem m h = by (is_kind data_row m) _ refl
+  where
+    by : (t : Bool) (list : Option ListSlot) → is_kind data_row m ≡ t → cond t list none ≡ none
+    by true list e = let w = row_of_kind m e in absurd (h w.0 w.1)
+    by false list e = refl
+
 told_by : {P : Type 0} (t : Bool) (x : Option ListSlot) (l : ListSlot) → cond t x none ≡ some l → If t P → P
 told_by true x l e h = h
 told_by false x l e h = absurd (zero_one cc)
@@ -87,7 +86,7 @@ data-row m l e =
     let list : some w.0.«data» ≡ some l = sym (row_in_lem w.0) ∙ ap row_in (sym is) ∙ e in
     (w.0, is, cc)
 
-pub refused : (m : Message) → OneOf (places no_row) (tag_of Msg.the_type m) → (consumed starts lengths : ℕ) → R.Refused no_such_element 0 ≡ row_fits (row_in m) consumed starts lengths
+pub refused : (m : Message) → ((r : DataRow) → m ≡ M.DataRow r → ⊥) → (consumed starts lengths : ℕ) → R.Refused no_such_element 0 ≡ row_fits (row_in m) consumed starts lengths
 unfolding row_fits
 refused m h consumed starts lengths = rw (no_row_lem m h) refl
 
@@ -138,11 +137,7 @@ pub is_row : (rules : Rules) (s : List ℕ) (starts lengths : ℕ) (l : ListSlot
 is_row rules s starts lengths l n e = row_by_lem rules s (decode_of rules s) starts lengths l n refl e
 
 -- where the answer is none, nothing is stored
-pub kept : (s starts : List ℕ) (lengths : List ℤ) (r : Row) → OneOf (1 ∷ 2 ∷ []) (tag_of RT.the_type r) → r ≡ row_by (decode_of (rules_of 1) s) (length starts) (length lengths) → ReadsRow s starts lengths r starts lengths
-kept s starts lengths (R.Is l n) h e = absurd (no_key h)
-  where
-    no_key : OneOf (1 ∷ 2 ∷ []) 0 → ⊥
-    no_key (inl q) = omega arith
-    no_key (inr q) = omega arith
+pub kept : (s starts : List ℕ) (lengths : List ℤ) (r : Row) → ((l : ListSlot) (n : ℕ) → r ≡ R.Is l n → ⊥) → r ≡ row_by (decode_of (rules_of 1) s) (length starts) (length lengths) → ReadsRow s starts lengths r starts lengths
+kept s starts lengths (R.Is l n) h e = absurd (h l n refl)
 kept s starts lengths R.NeedMore h e = record { answer = e; starts = refl; lengths = refl }
 kept s starts lengths (R.Refused number place) h e = record { answer = e; starts = refl; lengths = refl }

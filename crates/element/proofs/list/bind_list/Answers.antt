@@ -1,5 +1,6 @@
 -- `element::list::bind_list` meets its contract: arm by arm.
 use Prim.Native.Nat.{ℕ, zero, suc}
+use borrow.Author.Rules.{rules}
 use mathlib.Core.Option.{none}
 use mathlib.Core.Path.{◌≡◌, refl}
 use Rattle.protocol.specs.declared.Message.TheVariants as M

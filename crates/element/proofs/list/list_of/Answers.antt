@@ -10,6 +10,11 @@ use lib.Dec.{T}
 use types.Run.{OneOf}
 use Rattle.protocol.specs.declared.List.{List as ListSlot}
 use Rattle.protocol.specs.declared.Message.{Message}
+use Rattle.protocol.specs.declared.Message.TheVariants as M
+use Rattle.protocol.specs.declared.response.SslResponse.{SslResponse}
+use Rattle.protocol.specs.declared.response.SslResponse.TheVariants as S
+use Rattle.protocol.specs.declared.response.GssEncResponse.{GssEncResponse}
+use Rattle.protocol.specs.declared.response.GssEncResponse.TheVariants as E
 use Rattle.protocol.specs.Each.{Each}
 use Rattle.protocol.specs.Elements.{Listed, list_in, list_of}
 use Rattle.protocol.specs.Fields.{Item, signed_count, Field, one, counted, ended, Slot}
@@ -46,12 +51,44 @@ none_in (ended i ∷ xs) l s h = absurd h
 arm : {m k : Message} {x y : Option Listed} (l : ℕ) → m ≡ k → x ≡ y → y ≡ list_of k l → x ≡ list_of m l
 arm l e h is = h ∙ is ∙ ap (λ (m : Message). list_of m l) (sym e)
 
-abbrev listless : Kind → Bool
-listless k = no_list k.body
+ssl_none : (x : SslResponse) (l : ℕ) → none ≡ list_of (M.SslResponse x) l
+unfolding view list_of list_in the_table
+ssl_none S.Accept l = refl
+ssl_none S.Refuse l = refl
 
-no-list : (m : Message) (l : ℕ) → OneOf (places listless) (tag_of Msg.the_type m) → none ≡ list_of m l
-unfolding the_table find numbered list_of
-no-list m l h = none_in _ _ _ (passes listless (search tt depth 60 fits 5000) m h)
+gss_none : (x : GssEncResponse) (l : ℕ) → none ≡ list_of (M.GssEncResponse x) l
+unfolding view list_of list_in the_table
+gss_none E.Accept l = refl
+gss_none E.Refuse l = refl
+
+no_list_of : (m : Message) (l : ℕ)
+    → ((r : _) → m ≡ M.Parse r → ⊥)
+    → ((r : _) → m ≡ M.Bind r → ⊥)
+    → ((r : _) → m ≡ M.RowDescription r → ⊥)
+    → ((r : _) → m ≡ M.ParameterDescription r → ⊥)
+    → ((r : _) → m ≡ M.DataRow r → ⊥)
+    → ((r : _) → m ≡ M.ErrorResponse r → ⊥)
+    → ((r : _) → m ≡ M.NoticeResponse r → ⊥)
+    → ((r : _) → m ≡ M.CopyInResponse r → ⊥)
+    → ((r : _) → m ≡ M.CopyOutResponse r → ⊥)
+    → ((r : _) → m ≡ M.CopyBothResponse r → ⊥)
+    → ((r : _) → m ≡ M.Startup r → ⊥)
+    → none ≡ list_of m l
+unfolding view list_of list_in the_table
+no_list_of (M.Parse r) l a b c d e f g h i j k = absurd (a r refl)
+no_list_of (M.Bind r) l a b c d e f g h i j k = absurd (b r refl)
+no_list_of (M.RowDescription r) l a b c d e f g h i j k = absurd (c r refl)
+no_list_of (M.ParameterDescription r) l a b c d e f g h i j k = absurd (d r refl)
+no_list_of (M.DataRow r) l a b c d e f g h i j k = absurd (e r refl)
+no_list_of (M.ErrorResponse r) l a b c d e f g h i j k = absurd (f r refl)
+no_list_of (M.NoticeResponse r) l a b c d e f g h i j k = absurd (g r refl)
+no_list_of (M.CopyInResponse r) l a b c d e f g h i j k = absurd (h r refl)
+no_list_of (M.CopyOutResponse r) l a b c d e f g h i j k = absurd (i r refl)
+no_list_of (M.CopyBothResponse r) l a b c d e f g h i j k = absurd (j r refl)
+no_list_of (M.Startup r) l a b c d e f g h i j k = absurd (k r refl)
+no_list_of (M.SslResponse x) l a b c d e f g h i j k = ssl_none x l
+no_list_of (M.GssEncResponse x) l a b c d e f g h i j k = gss_none x l
+no_list_of m l a b c d e f g h i j k = refl
 
 pub returns-in-Parse : goal.returns-in-Parse
 unfolding the_table view list_of list_in
@@ -98,5 +135,6 @@ unfolding the_table view list_of list_in
 returns-in-Startup c = arm _ c.in-Startup.is c.only-in-Startup.ensures (ended-only _ _ _)
 
 pub returns-in_default : goal.returns-in_default
-unfolding the_table find numbered
-returns-in_default c = no-list _ _ c.in_default.not-Parse
+returns-in_default c =
+    let a = c.in_default in
+    no_list_of _ _ a.not-Parse a.not-Bind a.not-RowDescription a.not-ParameterDescription a.not-DataRow a.not-ErrorResponse a.not-NoticeResponse a.not-CopyInResponse a.not-CopyOutResponse a.not-CopyBothResponse a.not-Startup

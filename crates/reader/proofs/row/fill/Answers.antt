@@ -29,14 +29,14 @@ returns-in_default c = let q = c.loop-i in
 pub loop-i-preserved : goal.loop-i-preserved
 loop-i-preserved c = let q = c.loop-i in
     let a = c.args in
-    let g = c.start-1.given in
-    let is = sym g.1 ∙ c.entry_at.ensures in
-    let fits = length_fits (read_value a.frame.now q.place) g.0.0 g.0.1.1.0 g.0.1.0 is in (
+    let g = c.in-Is in
+    let is = sym g.is ∙ c.entry_at.ensures in
+    let fits = length_fits (read_value a.frame.now q.place) g.start g.next g.len is in (
       search rules,
       search rules,
       search rules,
-      turn start a.frame.now q.starts _ q.i a.count q.place g.0.0 g.0.1.1.0 g.0.1.0 (omega arith) is q.invariant.3,
-      rw (back w32 g.0.1.0 fits) (turn len a.frame.now q.lengths _ q.i a.count q.place g.0.0 g.0.1.1.0 g.0.1.0 (omega arith) is q.invariant.4),
+      turn start a.frame.now q.starts _ q.i a.count q.place g.start g.next g.len (omega arith) is q.invariant.3,
+      rw (back w32 g.len fits) (turn len a.frame.now q.lengths _ q.i a.count q.place g.start g.next g.len (omega arith) is q.invariant.4),
     )
 
 pub returns : goal.returns

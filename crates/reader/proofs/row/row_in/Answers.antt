@@ -1,14 +1,11 @@
 -- `reader::row::row_in` meets its contract: a row for which there is room.
 use mathlib.Core.Logic.{inl, inr}
 use borrow.Author.Rules.{rules}
-use Rattle.protocol.specs.Kinds.{find, the_table}
-use Rattle.protocol.specs.Views.{numbered}
 use Rattle.reader.specs.Row.{row_fits}
 use Rattle.reader.proofs.RowRoom.{row_in_lem, refused, too_few, enough}
 use Rattle.reader.proofs.row.row_in.Goals as goal
 
 pub returns-in_default : goal.returns-in_default
-unfolding the_table find numbered row_fits
 returns-in_default c = let a = c.args in
     refused a.message c.in_default.not-DataRow a.end a.starts a.lengths
 

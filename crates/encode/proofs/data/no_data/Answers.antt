@@ -1,0 +1,12 @@
+-- `encode::data::no_data` meets its contract.
+use mathlib.Core.Path.{refl}
+use borrow.Author.Rules.{rules}
+use Rattle.protocol.specs.Each.{able_each}
+use Rattle.protocol.specs.Kinds as K
+use Rattle.encode.specs.Given as G
+use Rattle.encode.proofs.Shapes.{as_kind}
+use Rattle.encode.proofs.data.no_data.Goals as goal
+
+pub returns : goal.returns
+unfolding K.frontend K.backend K.no_data G.no_data able_each
+returns c = as_kind c.bare.ensures K.backend (K.no_data).message refl refl

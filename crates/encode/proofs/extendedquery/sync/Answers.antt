@@ -1,0 +1,11 @@
+-- `encode::extendedquery::sync` meets its contract.
+use mathlib.Core.Path.{refl}
+use borrow.Author.Rules.{rules}
+use Rattle.protocol.specs.Kinds as K
+use Rattle.encode.specs.Given as G
+use Rattle.encode.proofs.Shapes.{as_kind}
+use Rattle.encode.proofs.extendedquery.sync.Goals as goal
+
+pub returns : goal.returns
+unfolding K.frontend K.sync G.sync
+returns c = as_kind c.bare.ensures K.frontend (K.sync).message refl refl

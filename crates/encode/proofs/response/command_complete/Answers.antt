@@ -1,0 +1,13 @@
+-- `encode::response::command_complete` meets its contract.
+use mathlib.Core.Path.{refl}
+use borrow.Author.Rules.{rules}
+use Rattle.protocol.specs.Each.{able_each}
+use Rattle.protocol.specs.Fields.{able, atom_able}
+use Rattle.protocol.specs.Kinds as K
+use Rattle.encode.specs.Given as G
+use Rattle.encode.proofs.Shapes.{as_kind}
+use Rattle.encode.proofs.response.command_complete.Goals as goal
+
+pub returns : goal.returns
+unfolding K.frontend K.backend K.command_complete G.command_complete able_each able atom_able
+returns c = as_kind c.one_text.ensures K.backend (K.command_complete).message refl refl
