@@ -24,8 +24,8 @@ fn write_cancel_request(pid: u32, key: u32, out: &mut [u8])
 
 // Sixteen bytes, always within the limit: only the room can be lacking. A kind of both modes of first packets.
 pub fn cancel_request(pid: i32, secret_key: i32, out: &mut [u8]) -> Encoded
-    ensures encodes { Encodes K.cancel K.cancel_request (G.cancel_request pid secret_key) out.old result out.new }
-    ensures encodes_2 { Encodes K.first_packet K.cancel_request (G.cancel_request pid secret_key) out.old result out.new }
+    ensures as_cancel { Encodes K.cancel K.cancel_request (G.cancel_request pid secret_key) out.old result out.new }
+    ensures as_first_packet { Encodes K.first_packet K.cancel_request (G.cancel_request pid secret_key) out.old result out.new }
 {
     let bits = bits32(pid);
     let key = bits32(secret_key);

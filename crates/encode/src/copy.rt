@@ -26,8 +26,8 @@ fn write_copy_data(data: &[u8], n: usize, out: &mut [u8])
 
 // From either side: a kind of both modes.
 pub fn copy_data(data: &[u8], out: &mut [u8]) -> Encoded
-    ensures encodes { Encodes K.frontend K.copy_data (G.copy_data «data».now) out.old result out.new }
-    ensures encodes_2 { Encodes K.backend K.copy_data (G.copy_data «data».now) out.old result out.new }
+    ensures from_frontend { Encodes K.frontend K.copy_data (G.copy_data «data».now) out.old result out.new }
+    ensures from_backend { Encodes K.backend K.copy_data (G.copy_data «data».now) out.old result out.new }
 {
     let size = plus(data.len(), 4);
     let r = verdict(true, LARGE, size, out.len());
@@ -40,8 +40,8 @@ pub fn copy_data(data: &[u8], out: &mut [u8]) -> Encoded
 
 // From either side too.
 pub fn copy_done(out: &mut [u8]) -> Encoded
-    ensures encodes { Encodes K.frontend K.copy_done G.copy_done out.old result out.new }
-    ensures encodes_2 { Encodes K.backend K.copy_done G.copy_done out.old result out.new }
+    ensures from_frontend { Encodes K.frontend K.copy_done G.copy_done out.old result out.new }
+    ensures from_backend { Encodes K.backend K.copy_done G.copy_done out.old result out.new }
 {
     bare(MESSAGE_TYPE_BYTE_COPY_DONE, out)
 }

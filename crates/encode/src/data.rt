@@ -19,7 +19,7 @@ use writers::values::values_given;
 use writers::{plus, put_head, put_oids, verdict};
 
 // A field names its column by start and length in the run. One pass measures, a second one writes; where the first finds a fault, the
-// second writes nothing. Walked by hand: a lent slice of structs is passed on.
+// second writes nothing.
 pub fn row_description(fields: &[FieldDescription], run: &[u8], out: &mut [u8]) -> Encoded
     ensures { Encodes K.backend K.row_description (G.row_description fields.now run.now) out.old result out.new }
 {

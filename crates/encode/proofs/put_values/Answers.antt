@@ -35,6 +35,11 @@ overflow_add-e c =
     let right : let q = c.loop-i in let a = c.args in (c.size_of.result ≤ length a.joined.now - q.j) × (is_some (values_given (drop (q.i + 1) a.lengths.now) (drop (q.j + c.size_of.result) a.joined.now)) ≡ true) = let q = c.loop-i in let a = c.args in value_right a.lengths.now a.joined.now q.i q.j c.loop-i-test.true c.n-1.given c.size_of.ensures q.invariant.4 in
     omega (arith, right.0)
 
+pub slice_bounds-put_value-end : goal.slice_bounds-put_value-end
+slice_bounds-put_value-end c =
+    let right : let q = c.loop-i in let a = c.args in (c.size_of.result ≤ length a.joined.now - q.j) × (is_some (values_given (drop (q.i + 1) a.lengths.now) (drop (q.j + c.size_of.result) a.joined.now)) ≡ true) = let q = c.loop-i in let a = c.args in value_right a.lengths.now a.joined.now q.i q.j c.loop-i-test.true c.n-1.given c.size_of.ensures q.invariant.4 in
+    omega (arith, right.0)
+
 pub loop-i-preserved : goal.loop-i-preserved
 loop-i-preserved c =
     let right : let q = c.loop-i in let a = c.args in (c.size_of.result ≤ length a.joined.now - q.j) × (is_some (values_given (drop (q.i + 1) a.lengths.now) (drop (q.j + c.size_of.result) a.joined.now)) ≡ true) = let q = c.loop-i in let a = c.args in value_right a.lengths.now a.joined.now q.i q.j c.loop-i-test.true c.n-1.given c.size_of.ensures q.invariant.4 in

@@ -15,6 +15,11 @@ slice_bounds-put_step-count c =
     let told : opening_of c.args.input.now ≡ O.Mode c.in-Mode.mode = sym c.opening_of.ensures ∙ c.in-Mode.is in
     opens _ _ told
 
+pub slice_bounds-put_step-start : goal.slice_bounds-put_step-start
+slice_bounds-put_step-start c =
+    let told : opening_of c.args.input.now ≡ O.Mode c.in-Mode.mode = sym c.opening_of.ensures ∙ c.in-Mode.is in
+    omega (arith, opens _ _ told)
+
 pub returns-in-Mode : goal.returns-in-Mode
 unfolding line_from
 returns-in-Mode c =

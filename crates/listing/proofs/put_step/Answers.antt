@@ -17,19 +17,19 @@ pub returns-in-Frame : goal.returns-in-Frame
 unfolding step_line
 returns-in-Frame c =
     let told : let a = c.args in step_at (rules_of a.mode) a.stream.now a.place ≡ frame c.in-Frame.message c.in-Frame.bytes = sym c.step_at.ensures ∙ ap step_of c.in-Frame.is in
-    rw told (record { wrote = c.put_frame-end.ensures.0; left = refl; short = c.put_frame-end.ensures.1 })
+    rw told (record { wrote = c.put_frame-end.ensures.wrote; left = refl; short = c.put_frame-end.ensures.upper_bound })
 
 pub returns-in-Whole : goal.returns-in-Whole
 unfolding step_line
 returns-in-Whole c = let q = sym c.step_at.ensures ∙ ap step_of c.in-Whole.is in
-    rw q (record { wrote = c.put_whole-end.ensures.0; left = refl; short = c.put_whole-end.ensures.1 })
+    rw q (record { wrote = c.put_whole-end.ensures.wrote; left = refl; short = c.put_whole-end.ensures.upper_bound })
 
 pub returns-in-NeedMore : goal.returns-in-NeedMore
 unfolding step_line
 returns-in-NeedMore c = let q = sym c.step_at.ensures ∙ ap step_of c.in-NeedMore.is in
-    rw q (record { wrote = c.put_need_more-end.ensures.0; left = refl; short = c.put_need_more-end.ensures.1 })
+    rw q (record { wrote = c.put_need_more-end.ensures.wrote; left = refl; short = c.put_need_more-end.ensures.upper_bound })
 
 pub returns-in-Refused : goal.returns-in-Refused
 unfolding step_line
 returns-in-Refused c = let q = sym c.step_at.ensures ∙ ap step_of c.in-Refused.is in
-    rw q (record { wrote = c.put_refused-end.ensures.0; left = refl; short = c.put_refused-end.ensures.1 })
+    rw q (record { wrote = c.put_refused-end.ensures.wrote; left = refl; short = c.put_refused-end.ensures.upper_bound })

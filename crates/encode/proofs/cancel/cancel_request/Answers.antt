@@ -26,14 +26,18 @@ both pid key e = (e, as_kind e K.first_packet (K.cancel_request).message refl re
 
 pub returns-then-out-lt16 : goal.returns-then-out-lt16
 unfolding K.cancel K.cancel_request G.cancel_request able_each able atom_able body_bytes bytes_of_each bytes atom_bytes be header frame
-returns-then-out-lt16 c = let a = c.args in
-    both a.pid a.secret-key (refused (short K.cancel K.cancel_request (a.pid, (a.secret-key, tt)) refl refl refl (omega (arith, c.if-out-lt16))) refl)
+returns-then-out-lt16 c =
+    let a = c.args in
+    let b = both a.pid a.secret_key (refused (short K.cancel K.cancel_request (a.pid, (a.secret_key, tt)) refl refl refl (omega (arith, c.if-out-lt16))) refl) in
+    record { as_cancel = b.0; as_first_packet = b.1 }
 
 pub returns : goal.returns
 unfolding K.cancel K.cancel_request G.cancel_request able_each able atom_able body_bytes bytes_of_each bytes atom_bytes be header frame
 returns c = let a = c.args in
     let pid = bits_of_lem w32 4 a.pid c.ranges.pid c.bits32-bits.ensures in
-    let key = bits_of_lem w32 4 a.secret-key c.ranges.secret_key c.bits32-key.ensures in
-    both a.pid a.secret-key
-    (done (enough K.cancel K.cancel_request (a.pid, (a.secret-key, tt)) refl refl refl (omega (arith, c.if-out-lt16))) refl
-    (c.write_cancel_request.ensures a.pid a.secret-key pid key))
+    let key = bits_of_lem w32 4 a.secret_key c.ranges.secret_key c.bits32-key.ensures in
+    let b =
+    both a.pid a.secret_key
+    (done (enough K.cancel K.cancel_request (a.pid, (a.secret_key, tt)) refl refl refl (omega (arith, c.if-out-lt16))) refl
+    (c.write_cancel_request.ensures a.pid a.secret_key pid key)) in
+    record { as_cancel = b.0; as_first_packet = b.1 }

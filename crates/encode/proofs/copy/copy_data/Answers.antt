@@ -24,7 +24,8 @@ both bytes e = (e, as_kind e K.backend (K.copy_data).message refl refl)
 pub returns-in_default : goal.returns-in_default
 returns-in_default c =
     let says : let a = c.args in Judged K.frontend K.copy_data (G.copy_data a.data.now) (length a.out.now) c.verdict-r.result = judged (M.copy_data _) (omega arith) refl (λ _. omega (arith, c)) c.verdict-r.ensures in
-    both _ (refused says c.in_default.is)
+    let b = both c.args.data.now (refused says c.in_default.is) in
+    record { from_frontend = b.0; from_backend = b.1 }
 
 pub write_copy_data-requires : goal.write_copy_data-requires
 write_copy_data-requires c =
@@ -37,4 +38,5 @@ pub returns : goal.returns
 returns c =
     let says : let a = c.args in Judged K.frontend K.copy_data (G.copy_data a.data.now) (length a.out.now) c.verdict-r.result = judged (M.copy_data _) (omega arith) refl (λ _. omega (arith, c)) c.verdict-r.ensures in
     let a = c.args in
-    both a.data.now (finished (M.copy_data a.data.now) says c.in-Done.is c.write_copy_data.ensures)
+    let b = both a.data.now (finished (M.copy_data a.data.now) says c.in-Done.is c.write_copy_data.ensures) in
+    record { from_frontend = b.0; from_backend = b.1 }

@@ -9,5 +9,4 @@ use Rattle.encode.proofs.copy.copy_done.Goals as goal
 
 pub returns : goal.returns
 unfolding K.frontend K.backend K.copy_done G.copy_done able_each
-returns c = let e = c.bare.ensures in
-    (as_kind e K.frontend (K.copy_done).message refl refl, as_kind e K.backend (K.copy_done).message refl refl)
+returns c = let e = c.bare.ensures in record { from_frontend = as_kind e K.frontend (K.copy_done).message refl refl; from_backend = as_kind e K.backend (K.copy_done).message refl refl }

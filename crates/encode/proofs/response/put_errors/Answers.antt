@@ -25,6 +25,11 @@ overflow_add-e c =
     let right : let q = c.loop-i in let a = c.args in let n = get_or a.lengths.now q.i 0 in (n ≤ length a.joined.now - q.j) × (is_some (texts_given (drop (q.i + 1) a.lengths.now) (drop (q.j + n) a.joined.now)) ≡ true) = let q = c.loop-i in let a = c.args in text_right a.lengths.now a.joined.now q.i q.j c.loop-i-test.true q.invariant.5 in
     omega (arith, right.0)
 
+pub slice_bounds-put_text-end : goal.slice_bounds-put_text-end
+slice_bounds-put_text-end c =
+    let right : let q = c.loop-i in let a = c.args in let n = get_or a.lengths.now q.i 0 in (n ≤ length a.joined.now - q.j) × (is_some (texts_given (drop (q.i + 1) a.lengths.now) (drop (q.j + n) a.joined.now)) ≡ true) = let q = c.loop-i in let a = c.args in text_right a.lengths.now a.joined.now q.i q.j c.loop-i-test.true q.invariant.5 in
+    omega (arith, right.0)
+
 pub loop-i-preserved : goal.loop-i-preserved
 loop-i-preserved c =
     let right : let q = c.loop-i in let a = c.args in let n = get_or a.lengths.now q.i 0 in (n ≤ length a.joined.now - q.j) × (is_some (texts_given (drop (q.i + 1) a.lengths.now) (drop (q.j + n) a.joined.now)) ≡ true) = let q = c.loop-i in let a = c.args in text_right a.lengths.now a.joined.now q.i q.j c.loop-i-test.true q.invariant.5 in

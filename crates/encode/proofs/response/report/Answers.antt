@@ -14,19 +14,18 @@ use Rattle.encode.specs.Given as G
 use Rattle.encode.proofs.Measures as M
 use Rattle.encode.proofs.response.report.Goals as goal
 
-small : (c : goal.After-verdict) (i : ℕ) → get_or (start c).args.codes.now i 0 < 256
-small c i = (c.before.before.before.before.before.before.before.before.shared-slice-known.given i).fits
-
 pub returns-in_default : goal.returns-in_default
 returns-in_default c =
-    let says : let a = c.args in Judged K.backend (G.reported a.type-byte) (G.report_of a.type-byte a.codes.now a.lengths.now a.joined.now) (length a.out.now) c.verdict-r.result = judged (M.reported _ _ _ _ (small c)) (omega arith) (cc) (λ _. omega (arith, c)) c.verdict-r.ensures in
+    let small : (i : ℕ) → get_or c.args.codes.now i 0 < 256 = λ i. (c.shared_slice_known-1.given i).fits in
+    let says : let a = c.args in Judged K.backend (G.reported a.type_byte) (G.report_of a.type_byte a.codes.now a.lengths.now a.joined.now) (length a.out.now) c.verdict-r.result = judged (M.reported _ _ _ _ small) (omega arith) (cc) (λ _. omega (arith, c)) c.verdict-r.ensures in
     refused says c.in_default.is
 
 pub write_report-requires : goal.write_report-requires
 write_report-requires c =
-    let says : let a = c.args in Judged K.backend (G.reported a.type-byte) (G.report_of a.type-byte a.codes.now a.lengths.now a.joined.now) (length a.out.now) c.verdict-r.result = judged (M.reported _ _ _ _ (small c)) (omega arith) (cc) (λ _. omega (arith, c)) c.verdict-r.ensures in
+    let small : (i : ℕ) → get_or c.args.codes.now i 0 < 256 = λ i. (c.shared_slice_known-1.given i).fits in
+    let says : let a = c.args in Judged K.backend (G.reported a.type_byte) (G.report_of a.type_byte a.codes.now a.lengths.now a.joined.now) (length a.out.now) c.verdict-r.result = judged (M.reported _ _ _ _ small) (omega arith) (cc) (λ _. omega (arith, c)) c.verdict-r.ensures in
     let a = c.args in
-    let h = room_of (M.reported a.type-byte a.codes.now a.lengths.now a.joined.now (small c)) says c.in-Done.is in
+    let h = room_of (M.reported a.type_byte a.codes.now a.lengths.now a.joined.now small) says c.in-Done.is in
     let some = is_some (error_fields_given a.codes.now a.lengths.now a.joined.now) in (
       omega (arith, h.whole),
       h.fits,
@@ -36,6 +35,7 @@ write_report-requires c =
 
 pub returns : goal.returns
 returns c =
-    let says : let a = c.args in Judged K.backend (G.reported a.type-byte) (G.report_of a.type-byte a.codes.now a.lengths.now a.joined.now) (length a.out.now) c.verdict-r.result = judged (M.reported _ _ _ _ (small c)) (omega arith) (cc) (λ _. omega (arith, c)) c.verdict-r.ensures in
+    let small : (i : ℕ) → get_or c.args.codes.now i 0 < 256 = λ i. (c.shared_slice_known-1.given i).fits in
+    let says : let a = c.args in Judged K.backend (G.reported a.type_byte) (G.report_of a.type_byte a.codes.now a.lengths.now a.joined.now) (length a.out.now) c.verdict-r.result = judged (M.reported _ _ _ _ small) (omega arith) (cc) (λ _. omega (arith, c)) c.verdict-r.ensures in
     let a = c.args in
-    finished (M.reported a.type-byte a.codes.now a.lengths.now a.joined.now (small c)) says c.in-Done.is c.write_report.ensures
+    finished (M.reported a.type_byte a.codes.now a.lengths.now a.joined.now small) says c.in-Done.is c.write_report.ensures

@@ -13,5 +13,5 @@ use Rattle.encode.proofs.response.write_report.Goals as goal
 pub returns : goal.returns
 unfolding body_bytes bytes_of_each
 returns c = let a = c.args in
-    framed_given (G.reported a.type-byte) (λ fs. (fs, tt)) (error_fields_given a.codes.now a.lengths.now a.joined.now)
-    (λ fs is. framed_put (G.reported a.type-byte) (fs, tt) c.put_head-at.ensures ((λ _. c.put_errors.ensures.field fs is) and none) (omega (arith, c.requires)) c.requires.1 c.requires.2)
+    framed_given (G.reported a.type_byte) (λ fs. (fs, tt)) (error_fields_given a.codes.now a.lengths.now a.joined.now)
+    (λ fs is. framed_put (G.reported a.type_byte) (fs, tt) c.put_head-at.ensures ((λ _. c.put_errors.ensures.field fs is) and none) (omega (arith, c.requires)) c.requires.1 c.requires.2)

@@ -5,4 +5,4 @@ use Rattle.listing.proofs.lines.put_need_more.Goals as goal
 
 pub returns : goal.returns
 unfolding end_line
-returns c = (c.put_words.ensures.0, search rules)
+returns c = record { wrote = c.put_words.ensures.wrote; upper_bound = search rules }

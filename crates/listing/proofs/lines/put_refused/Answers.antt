@@ -8,7 +8,4 @@ use Rattle.listing.proofs.lines.put_refused.Goals as goal
 
 pub returns : goal.returns
 unfolding end_line
-returns c = (
-      c.put_bytes-at.ensures.fits refl (omega arith) then c.put_number-at.ensures.0 then c.put_byte-at.ensures.fits refl (omega arith) then c.put_number-at-2.ensures.0 then c.put_byte.ensures.fits refl (omega arith),
-      search rules,
-    )
+returns c = record { wrote = c.put_bytes-at.ensures.fits refl (omega arith) then c.put_number-at.ensures.wrote then c.put_byte-at.ensures.fits refl (omega arith) then c.put_number-at-2.ensures.wrote then c.put_byte.ensures.fits refl (omega arith); upper_bound = search rules }

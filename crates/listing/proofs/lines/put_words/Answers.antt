@@ -6,4 +6,4 @@ use Rattle.listing.proofs.Writing.{◌then◌}
 use Rattle.listing.proofs.lines.put_words.Goals as goal
 
 pub returns : goal.returns
-returns c = (c.put_bytes-at.ensures.fits refl (omega arith) then c.put_number-at.ensures.0 then c.put_byte.ensures.fits refl (omega arith), search rules)
+returns c = record { wrote = c.put_bytes-at.ensures.fits refl (omega arith) then c.put_number-at.ensures.wrote then c.put_byte.ensures.fits refl (omega arith); upper_bound = search rules }

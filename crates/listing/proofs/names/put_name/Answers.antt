@@ -28,5 +28,4 @@ returns c =
     let e : take c.letters_in-n.result c.name_of-name.result ≡ letters_of (name_of m) = rw (c.letters_in-n.ensures, name) (its_letters m) in
     let full = ap length name ∙ filled-length 20 (name_of m) in
     let n = length-take-le c.letters_in-n.result c.name_of-name.result fits in
-    let w = c.put_bytes.ensures.fits refl (omega (arith, fits, full, n)) in
-    (same e w, omega (arith, w.place, fits, full, n))
+    let w = c.put_bytes.ensures.fits refl (omega (arith, fits, full, n)) in record { wrote = same e w; upper_bound = omega (arith, w.place, fits, full, n) }

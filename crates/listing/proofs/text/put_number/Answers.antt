@@ -12,5 +12,4 @@ pub returns : goal.returns
 returns c = let d = c.digits_of-digits in
     let x = d.result in
     let all = take_all (20 - x.first) (drop x.first x.letters) (simp length-drop (omega (arith, d.ensures.1))) in
-    let w = same (all ∙ d.ensures.2) (c.put_bytes.ensures.fits refl (simp (length-take, length-drop) (omega arith))) in
-    (w, omega (arith, w.place, ap length d.ensures.2, length-drop x.first x.letters, d.ensures.1))
+    let w = same (all ∙ d.ensures.2) (c.put_bytes.ensures.fits refl (simp (length-take, length-drop) (omega arith))) in record { wrote = w; upper_bound = omega (arith, w.place, ap length d.ensures.2, length-drop x.first x.letters, d.ensures.1) }
