@@ -52,4 +52,4 @@ returns-in-GssEncRequest c = arm c.in-GssEncRequest.is refl
 
 pub returns-in_default : goal.returns-in_default
 unfolding the_table find numbered
-returns-in_default c = left_last c.args.message c.requires c.in_default.not-Flush
+returns-in_default c = left_last c.args.message c.requires (search rules)

@@ -25,7 +25,7 @@ gss-name Gss.Refuse = refl
 
 pub empty_name-requires : goal.empty_name-requires
 unfolding the_table find numbered
-empty_name-requires c = left_empty c.args.message c.in_default.not-Parse
+empty_name-requires c = left_empty c.args.message (search rules)
 
 pub returns-in-Parse : goal.returns-in-Parse
 unfolding the_table view
