@@ -18,17 +18,14 @@ use Rattle.protocol.proofs.Find.{All}
 use Rattle.protocol.specs.contracts.Message as Msg
 use Rattle.protocol.proofs.Views.{made, each_row, places, passes}
 use Rattle.host_layout.specs.LaidOut.{numbers_of}
-use Rattle.host.proofs.decoding.query_answer.Statement.{statement}
-use Rattle.host.proofs.decoding.query_answer.Tie as tie
+use Rattle.host.proofs.decoding.query_answer.Goals as goal
 
--- the kinds of the last arm: of those that are asked for it is the first alone
 abbrev left : Kind → Bool
 left k = leb 24 (kind_number k) || leb (kind_number k) 16
 
 first : (n : ℕ) → (16 ≤ n) × (n ≤ 23) → T (leb 24 n || leb n 16) → n ≡ 16
 first n asked t = let low = leb→le n 16 (rw (lt-leb 24 n (omega arith)) at t) in omega arith
 
--- a row of that number has no field
 abbrev Empty : Kind → Type 0
 Empty k = (s : Each Slot k.body) → numbers_of (k.message s) ≡ cond (eqb (kind_number k) 16) (16 ∷ []) (numbers_of (k.message s))
 
@@ -40,36 +37,34 @@ is-empty : (m : Message) → (16 ≤ kind_number (view m).kind) × (kind_number 
 unfolding the_table find numbered
 is-empty m asked is = rw (made m, first _ asked (passes left (search tt depth 60 fits 5000) m is)) at (each_row Empty empty m (view m).slots)
 
-returns-8 : tie.Need-returns-8
-unfolding the_table find numbered
-returns-8 c = rw (is-empty _ c.before.before.requires c.before.match.keys8) c.none.ensures
-
-pub query-answer-spec : {M : Type 1} → statement M
+pub returns-in-RowDescription : goal.returns-in-RowDescription
 unfolding the_table view numbers_of
-query-answer-spec =
-    tie.close
-    (tie.spec
-    (λ c. search rules)
-    (λ c κs. search rules)
-    (λ c. search rules)
-    (λ c κs. search rules)
-    (λ c. search rules)
-    (λ c κs. search rules)
-    (λ c. search rules)
-    (λ c κs. search rules)
-    (λ c. search rules)
-    (λ c. search rules)
-    (λ c κs. search rules)
-    (λ c. search rules)
-    (λ c κs. search rules)
-    (λ c. search rules)
-    (λ c κs. search rules)
-    (λ c κs. search rules)
-    (λ c. rw c.before.before.message.given.1 c.one_list.ensures)
-    (λ c. rw c.before.before.message2.given.1 c.one-list2.ensures)
-    (λ c. rw c.before.before.message3.given.1 c.one-list3.ensures)
-    (λ c. rw c.before.before.message4.given.1 c.one_span.ensures)
-    (λ c. rw c.before.before.before.message5.given.1 c.one_number.ensures)
-    (λ c. rw c.before.before.message6.given.1 c.one-list4.ensures)
-    (λ c. rw c.before.before.message7.given.1 c.one-list5.ensures)
-    returns-8)
+returns-in-RowDescription c = rw c.in-RowDescription.is c.one_list.ensures
+
+pub returns-in-ParameterDescription : goal.returns-in-ParameterDescription
+unfolding the_table view numbers_of
+returns-in-ParameterDescription c = rw c.in-ParameterDescription.is c.one_list-in-ParameterDescription.ensures
+
+pub returns-in-DataRow : goal.returns-in-DataRow
+unfolding the_table view numbers_of
+returns-in-DataRow c = rw c.in-DataRow.is c.one_list-in-DataRow.ensures
+
+pub returns-in-CommandComplete : goal.returns-in-CommandComplete
+unfolding the_table view numbers_of
+returns-in-CommandComplete c = rw c.in-CommandComplete.is c.one_span.ensures
+
+pub returns-in-ReadyForQuery : goal.returns-in-ReadyForQuery
+unfolding the_table view numbers_of
+returns-in-ReadyForQuery c = rw c.in-ReadyForQuery.is c.one_number.ensures
+
+pub returns-in-ErrorResponse : goal.returns-in-ErrorResponse
+unfolding the_table view numbers_of
+returns-in-ErrorResponse c = rw c.in-ErrorResponse.is c.one_list-in-ErrorResponse.ensures
+
+pub returns-in-NoticeResponse : goal.returns-in-NoticeResponse
+unfolding the_table view numbers_of
+returns-in-NoticeResponse c = rw c.in-NoticeResponse.is c.one_list-in-NoticeResponse.ensures
+
+pub returns-in_default : goal.returns-in_default
+unfolding the_table find numbered
+returns-in_default c = rw (is-empty _ c.requires (search rules)) c.none.ensures

@@ -1,0 +1,19 @@
+-- `host::encoding::ssl` meets its contract: each arm is a row of the table.
+use mathlib.Core.Path.{refl}
+use Rattle.protocol.specs.Kinds.{find, the_table}
+use Rattle.host.specs.Asked.{asked_in, ssl_rows}
+use Rattle.host.proofs.Choices.{arm, unknown}
+use borrow.Author.Rules.{rules}
+use Rattle.host.proofs.encoding.ssl.Goals as goal
+
+pub returns-in-0 : goal.returns-in-0
+unfolding the_table asked_in find
+returns-in-0 c = arm ssl_rows c.in-0.is c.ssl_response.ensures refl
+
+pub returns-in-1 : goal.returns-in-1
+unfolding the_table asked_in find
+returns-in-1 c = arm ssl_rows c.in-1.is c.ssl_response-in-1.ensures refl
+
+pub returns-in_default : goal.returns-in_default
+unfolding the_table
+returns-in_default c = unknown ssl_rows _ (search rules)
