@@ -3,7 +3,7 @@ use Prim.Native.Nat.{ℕ, zero, suc, ◌+◌, ◌≤◌, ◌<◌}
 use mathlib.Core.Bool.{Bool, true, false, cond}
 use mathlib.Core.List.{List, [], ◌∷◌, ◌++◌, append_assoc, append-nil}
 use mathlib.Core.Option.{Option, some, none}
-use mathlib.Core.Path.{◌≡◌, refl, ap, sym, ◌∙◌}
+use mathlib.Core.Path.{◌≡◌, refl, ap, sym, ◌∙◌, subst}
 use native.Mathlib.Omega.{arith}
 use borrow.Author.Tests.{ltb-true, ltb-false}
 use lib.Dec.{T, leb, ltb}
@@ -117,7 +117,9 @@ atoms_placed (a ∷ xs) c pre post =
     let b = atom_bytes a c.0 in
     let r = bytes_of_each atom_bytes xs c.1 in
     let q : length (pre ++ b) ≡ length pre + length b = length-append pre b in
-    rw (append_assoc b r post) (atom_placed a c.0 pre (r ++ post), rw (← append_assoc pre b (r ++ post), ← q) (atoms_placed xs c.1 (pre ++ b) post))
+    let then = atoms_placed xs c.1 (pre ++ b) post in
+    let P : List ℕ → Type 0 = λ w. AtomsPlaced (pre ++ w) (a ∷ xs) (slots_of_each atom_bytes atom_slot (a ∷ xs) (length pre) c) c in
+    subst P (sym (append_assoc b r post)) (atom_placed a c.0 pre (r ++ post), rw (q, append_assoc pre b (r ++ post)) at then)
 
 Placed : List ℕ → Option Found → Type 0
 Placed s none = Unit {0}

@@ -2,7 +2,7 @@
 use Prim.Native.Nat.{ℕ, ◌+◌, ◌≤◌}
 use mathlib.Core.List.{List, [], ◌∷◌, ◌++◌, append_assoc}
 use mathlib.Core.Option.{some, none}
-use mathlib.Core.Path.{◌≡◌, refl, sym, ◌∙◌}
+use mathlib.Core.Path.{◌≡◌, refl, sym, ◌∙◌, subst}
 use native.Mathlib.Omega.{arith}
 use borrow.Author.Tests.{le-ltb}
 use lib.ListN.{length, drop, length-append, take-append-drop}
@@ -50,7 +50,9 @@ fields_placed (x ∷ xs) c pre post =
     let b = bytes x c.0 in
     let r = bytes_of_each bytes xs c.1 in
     let q : length (pre ++ b) ≡ length pre + length b = length-append pre b in
-    rw (append_assoc b r post) (field_placed x c.0 pre (r ++ post), rw (← append_assoc pre b (r ++ post), ← q) (fields_placed xs c.1 (pre ++ b) post))
+    let then = fields_placed xs c.1 (pre ++ b) post in
+    let P : List ℕ → Type 0 = λ w. FieldsPlaced (pre ++ w) (x ∷ xs) (length pre) (slots_of_each bytes slot (x ∷ xs) (length pre) c) c in
+    subst P (sym (append_assoc b r post)) (field_placed x c.0 pre (r ++ post), rw (q, append_assoc pre b (r ++ post)) at then)
 
 pub fields : Fields the_decoder
 unfolding record_of frame body_bytes

@@ -2,7 +2,7 @@
 use Prim.Native.Nat.{ℕ, zero, suc, ◌+◌}
 use mathlib.Core.Bool.{true}
 use mathlib.Core.List.{List, [], ◌∷◌, ◌++◌, append_assoc, append-nil}
-use mathlib.Core.Path.{◌≡◌, refl}
+use mathlib.Core.Path.{◌≡◌, refl, subst, sym}
 use native.Mathlib.Omega.{arith}
 use borrow.Author.Tests.{leb-true}
 use lib.Dec.{T, leb}
@@ -61,7 +61,8 @@ module _ (rules : Rules) where
       let can = both _ _ h in
       let first = atom_in_order a c.0 pre (more ++ post) (in_item_sane a s) r.0 can.0 (in_item_last a _ s) in
       let then = atoms_in_order xs c.1 (pre ++ b) post (right_holds (in_item a) (every in_item xs) t) r.1 can.1 in
-      rw (append_assoc b more post) (first, rw (q, append_assoc pre b (more ++ post)) at then)
+      let P : List ℕ → Type 0 = λ w. AtomsInOrder the_reader (pre ++ w) (a ∷ xs) (length pre) c in
+      subst P (sym (append_assoc b more post)) (first, rw (q, append_assoc pre b (more ++ post)) at then)
 
   module _ (i : Item) (sane : T (sane_item i)) where
     items_in_order : (cs : List (ItemContent i)) (pre post : List ℕ) → ItemsInRange i cs → items_able rules i cs ≡ true → ItemsInOrder the_reader (pre ++ (items_bytes i cs ++ post)) i (length pre) cs
@@ -74,7 +75,8 @@ module _ (rules : Rules) where
         let can = both _ _ h in
         let first = atoms_in_order i.atoms c pre (more ++ post) (left_holds (every in_item i.atoms) (leb 1 (item_least i)) sane) r.0 can.0 in
         let then = items_in_order cs (pre ++ b) post r.1 can.1 in
-        rw (append_assoc b more post) (first, rw (q, append_assoc pre b (more ++ post)) at then)
+        let P : List ℕ → Type 0 = λ w. ItemsInOrder the_reader (pre ++ w) i (length pre) (c ∷ cs) in
+      subst P (sym (append_assoc b more post)) (first, rw (q, append_assoc pre b (more ++ post)) at then)
 
   field_in_order : (x : Field) (c : Content x) (pre post : List ℕ) → T (sane_field x) → InRange x c → able rules x c ≡ true → LastField x post → FieldInOrder the_reader (pre ++ (bytes x c ++ post)) x (length pre) c
   unfolding FieldInOrder InRange able bytes

@@ -89,6 +89,7 @@ atom_number rest g number h = absurd h
 
 module _ (rules : Rules) where
   atoms_number : (xs : List Atom) (g : List ℕ) (number at : ℕ) → AtomsFault rules xs g number at → One number
+  atoms_number [] g number at x' = elim x' [ ]
   atoms_number (a ∷ xs) g number at (here h) = atom_number a g number h
   atoms_number (a ∷ xs) g number at (later {h = h} {at = inside} before fault) = atoms_number xs h number inside fault
 

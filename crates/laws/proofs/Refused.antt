@@ -95,6 +95,7 @@ module _ (f : List ℕ) where
 
   module _ (rules : Rules) where
     atoms_refused : (xs : List Atom) → T (every in_item xs) → (p number at : ℕ) (g : List ℕ) → p ≤ length f → drop p f ≡ g → AtomsFault rules xs g number at → read_each (read_atom rules) xs f p ≡ bad number (p + at)
+    atoms_refused [] t p number at g l q x4 = elim x4 [ ]
     atoms_refused (a ∷ xs) t p number at g l q (here h) =
         let z : p ≡ p + 0 = omega arith in
         rw (atom_refused rules p l a number (rw (← q) at h)) (ap (bad number) z)

@@ -67,6 +67,7 @@ module _ {A : Type 0} (key : A → ℕ) where
   -- where no two share a key, what is in the list is found by its own
   finds : (xs : List A) → T (distinct xs) → (n : ℕ) (x : A) → IsIn x xs → key x ≡ n → find key n xs ≡ some x
   unfolding find
+  finds [] d n x x5 e = elim x5 [ ]
   finds (y ∷ ys) d n x (inl q) e = rw (eq-eqb n (key y) (sym e ∙ ap key q)) (ap some (sym q))
   finds (y ∷ ys) d n x (inr i) e =
       let f = left_holds (fresh (key y) ys) (distinct ys) d in
