@@ -11,9 +11,7 @@ returns-in-Oid c = rw c.in-Oid.is c.one_number.ensures
 
 pub returns-in-Format : goal.returns-in-Format
 unfolding element_out
-returns-in-Format c =
-    let fits : mag c.in-Format.code < 2 ^ hbits w16 = search rules in
-    rw (c.in-Format.is, ← passed w16 c.in-Format.code fits c.half.ensures) c.one_number-in-Format.ensures
+returns-in-Format c = rw (c.in-Format.is, ← passed w16 c.in-Format.code (search rules) c.half.ensures) c.one_number-in-Format.ensures
 
 pub returns-in-Null : goal.returns-in-Null
 unfolding element_out
