@@ -76,7 +76,7 @@ module _ (rules : Rules) where
         let first = atoms_in_order i.atoms c pre (more ++ post) (left_holds (every in_item i.atoms) (leb 1 (item_least i)) sane) r.0 can.0 in
         let then = items_in_order cs (pre ++ b) post r.1 can.1 in
         let P : List ℕ → Type 0 = λ w. ItemsInOrder the_reader (pre ++ w) i (length pre) (c ∷ cs) in
-      subst P (sym (append_assoc b more post)) (first, rw (q, append_assoc pre b (more ++ post)) at then)
+        subst P (sym (append_assoc b more post)) (first, rw (q, append_assoc pre b (more ++ post)) at then)
 
   field_in_order : (x : Field) (c : Content x) (pre post : List ℕ) → T (sane_field x) → InRange x c → able rules x c ≡ true → LastField x post → FieldInOrder the_reader (pre ++ (bytes x c ++ post)) x (length pre) c
   unfolding FieldInOrder InRange able bytes

@@ -13,11 +13,13 @@ pub loop-k-preserved : goal.loop-k-preserved
 loop-k-preserved c =
     let s = c.args.s.now in
     let i = c.args.i in
-    let k = c.loop-k.k in
-    (omega arith, λ t. elim c.if-s-i-eq0.branch [
-        then-s-i-eq0 w ↦ absurd (false≢true (sym w.r-is ∙ t))
-      | else-s-i-eq0 w ↦ ap (zero_from s) (omega arith) ∙ at_other s (i + k) (omega arith) w.if-s-i-eq0.false ∙ c.loop-k.invariant.1 (sym w.r-is ∙ t)
-    ])
+    let k = c.loop-k.k in (
+      omega arith,
+      λ t. elim c.if-s-i-eq0.branch [
+        | then-s-i-eq0 w ↦ absurd (false≢true (sym w.r-is ∙ t))
+        | else-s-i-eq0 w ↦ ap (zero_from s) (omega arith) ∙ at_other s (i + k) (omega arith) w.if-s-i-eq0.false ∙ c.loop-k.invariant.1 (sym w.r-is ∙ t)
+      ],
+    )
 
 pub returns : goal.returns
 returns c = λ t. (omega arith, (omega arith, ap (zero_from c.args.s.now) (omega arith) ∙ c.loop-k.invariant.1 t))

@@ -58,16 +58,16 @@ left c =
     let f = a.frame.now in
     let on = grows a.item a.rules f in
     elim c.match-byte.branch [
-      in_default w ↦
-        let short = not_whole 1 _ _ _ _ (sym c.byte.ensures ∙ ap (byte_read q.at) w.in_default.is) in
-        ap outcome_read w.outcome-is ∙ ended_cut a.rules i f on q.at q.count short ∙ q.invariant.0
-    | in-Is+then-first-eq0 w ↦
-        let first = ap (byte_read q.at) (sym w.in-Is.is) ∙ c.byte.ensures in
-        ap outcome_read w.outcome-is ∙ ended_zero a.rules i f on _ _ _ _ first w.if-first-eq0.true ∙ q.invariant.0
-    | in-Is+else-first-eq0+in-Refused w ↦
-        let first = ap (byte_read q.at) (sym w.in-Is.is) ∙ c.byte.ensures in
-        let cut = ap passed_read (sym w.in-Refused.is) ∙ w.pass_item.ensures in
-        ap outcome_read w.outcome-is ∙ ended_bad a.rules i f on _ _ _ _ first w.if-first-eq0.false _ _ cut ∙ q.invariant.0
+      | in_default w ↦
+          let short = not_whole 1 _ _ _ _ (sym c.byte.ensures ∙ ap (byte_read q.at) w.in_default.is) in
+          ap outcome_read w.outcome-is ∙ ended_cut a.rules i f on q.at q.count short ∙ q.invariant.0
+      | in-Is+then-first-eq0 w ↦
+          let first = ap (byte_read q.at) (sym w.in-Is.is) ∙ c.byte.ensures in
+          ap outcome_read w.outcome-is ∙ ended_zero a.rules i f on _ _ _ _ first w.if-first-eq0.true ∙ q.invariant.0
+      | in-Is+else-first-eq0+in-Refused w ↦
+          let first = ap (byte_read q.at) (sym w.in-Is.is) ∙ c.byte.ensures in
+          let cut = ap passed_read (sym w.in-Refused.is) ∙ w.pass_item.ensures in
+          ap outcome_read w.outcome-is ∙ ended_bad a.rules i f on _ _ _ _ first w.if-first-eq0.false _ _ cut ∙ q.invariant.0
     ]
 
 pub returns-in-Ended : goal.returns-in-Ended
