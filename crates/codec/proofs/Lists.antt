@@ -1,7 +1,7 @@
 -- A list's count, and lists whose elements all have one size.
-use Prim.Native.Nat.{ℕ, zero, suc, ◌+◌, ◌-◌, ◌*◌, ◌≤◌, ◌<◌, ◌^◌}
+use Prim.Native.Nat.{ℕ, ◌+◌, ◌-◌, ◌*◌, ◌≤◌, ◌<◌, ◌^◌}
 use mathlib.Core.List.{List}
-use mathlib.Core.Path.{◌≡◌, refl, ap, ◌∙◌, sym}
+use mathlib.Core.Path.{◌≡◌, refl, ◌∙◌, sym}
 use native.Mathlib.Omega.{arith}
 use borrow.Author.Tests.{le-leb, lt-leb}
 use lib.IntN.{ℤ, pos, negsuc}
@@ -14,7 +14,7 @@ use Rattle.protocol.specs.Fields.{Item, item_least, Count, count_of, most, count
 use Rattle.protocol.specs.Kinds.{oid, format, oids, formats}
 use Rattle.protocol.specs.Reading.{Read, got, bad, and_then, read, read_number, pass_items, count_at, read_count, read_counted}
 use Rattle.protocol.specs.Refusals.{bad_count, cut}
-use Rattle.protocol.proofs.Counts.{count_above, count_back, Counted, counted_is, Steady, pass_steady}
+use Rattle.protocol.proofs.Counts.{count_above, count_back, counted_is, Steady, pass_steady}
 use Rattle.codec.specs.Fixed.{read_fixed}
 use Rattle.codec.proofs.Numbers.{number_got}
 

@@ -7,8 +7,7 @@ use mathlib.Core.Path.{◌≡◌, refl, ap}
 use native.Mathlib.Omega.{arith}
 use lib.Dec.{eqb}
 use lib.ListN.{length, drop, length-drop}
-use Rattle.protocol.specs.declared.Span.{Span}
-use Rattle.protocol.specs.Reading.{Read, got, bad, one_more, zero_in, read_text, text_at}
+use Rattle.protocol.specs.Reading.{got, bad, one_more, zero_in, read_text, text_at}
 use Rattle.protocol.specs.Refusals.{cut}
 use Rattle.scan.specs.Zero.{before, zero_from}
 

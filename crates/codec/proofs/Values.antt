@@ -1,14 +1,14 @@
 -- A value, from its length word.
-use Prim.Native.Nat.{ℕ, zero, suc, ◌+◌, ◌-◌, ◌≤◌, ◌<◌}
+use Prim.Native.Nat.{ℕ, suc, ◌+◌, ◌-◌, ◌≤◌, ◌<◌}
 use mathlib.Core.List.{List}
-use mathlib.Core.Option.{Option, some, none}
+use mathlib.Core.Option.{some, none}
 use mathlib.Core.Path.{◌≡◌, refl, ap, ◌∙◌, sym}
 use native.Mathlib.Omega.{arith}
 use borrow.Author.Tests.{le-leb, lt-leb}
 use lib.IntN.{ℤ, pos, negsuc}
 use lib.ListN.{length}
 use Rattle.protocol.specs.Bytes.{longest, signed_of}
-use Rattle.protocol.specs.Reading.{Read, got, bad, read_number, value_at, read_value}
+use Rattle.protocol.specs.Reading.{got, bad, read_number, value_at, read_value}
 use Rattle.protocol.specs.Refusals.{cut, not_allowed}
 use Rattle.protocol.proofs.Numbers.{lower, upper}
 

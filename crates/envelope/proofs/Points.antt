@@ -2,15 +2,13 @@
 use Prim.Native.Nat.{ℕ, ◌+◌, ◌≤◌}
 use mathlib.Core.Bool.{Bool, true, false, cond}
 use mathlib.Core.List.{List, [], ◌∷◌}
-use mathlib.Core.Path.{◌≡◌, refl, ap, sym, ◌∙◌}
+use mathlib.Core.Path.{◌≡◌, refl, ap, ◌∙◌}
 use native.Mathlib.Omega.{arith}
 use borrow.Author.Tests.{ltb-false, eqb-true, eqb-false}
 use lib.Dec.{ltb, eqb}
 use lib.IntN.{ℤ, pos, negsuc}
 use lib.ListN.{length, take}
 use lib.Seq.{length-take-le}
-use types.Run.{OneOf, miss}
-use denote.Enum.Declared.{tag_of}
 use Rattle.protocol.specs.declared.Decoded.TheVariants as D
 use Rattle.protocol.specs.declared.Decoded.{Decoded}
 use Rattle.protocol.specs.declared.Message.{Message}
@@ -29,7 +27,6 @@ use Rattle.protocol.proofs.OneByOne.{each_on, each_off}
 use Rattle.envelope.specs.Steps.{end_of, end_in, unframed_of, left_of, framed_by, decode_made}
 use Rattle.envelope.specs.declared.Header.TheVariants as H
 use Rattle.envelope.specs.declared.Header.{Header}
-use Rattle.envelope.specs.contracts.Header as HT
 
 -- ---- one field after the other
 

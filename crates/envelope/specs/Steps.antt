@@ -1,5 +1,5 @@
 -- What the steps of a kind's decoder answer around its body.
-use Rattle.std.specs.Prelude.{ℕ, ◌+◌, cond, List, [], ◌∷◌, ltb, eqb, ℤ, pos, negsuc, length, take}
+use Rattle.std.specs.Prelude.{ℕ, ◌+◌, cond, List, ltb, eqb, ℤ, pos, negsuc, length, take}
 use Rattle.protocol.specs.declared.Decoded.TheVariants as D
 use Rattle.protocol.specs.declared.Decoded.{Decoded}
 use Rattle.protocol.specs.declared.Message.{Message}
@@ -10,7 +10,7 @@ use Rattle.protocol.specs.Decode.{closed, decoded_by}
 use Rattle.protocol.specs.Each.{Each}
 use Rattle.protocol.specs.Fields.{Field, Slot}
 use Rattle.protocol.specs.Kinds.{Envelope, typed, untyped, bare}
-use Rattle.protocol.specs.Reading.{Read, and_then, read, read_each}
+use Rattle.protocol.specs.Reading.{and_then, read, read_each}
 use Rattle.protocol.specs.Refusals.{length_too_small, length_above_limit}
 use Rattle.protocol.specs.WellFormed.{body_start}
 use Rattle.codec.specs.declared.Listed.TheVariants as L

@@ -1,7 +1,7 @@
 -- What a step of reading leaves: one thing after the other, and a number that is read as a signed one.
 use Prim.Native.Nat.{ℕ}
 use mathlib.Core.List.{List, ◌∷◌}
-use mathlib.Core.Path.{◌≡◌, refl, sym, ◌∙◌}
+use mathlib.Core.Path.{◌≡◌, refl, ◌∙◌}
 use Rattle.protocol.specs.Bytes.{signed_of}
 use Rattle.protocol.specs.Each.{Each}
 use Rattle.protocol.specs.Reading.{Read, got, bad, and_then, read_each}

@@ -4,19 +4,16 @@ use Prim.Native.Nat.{ℕ, zero, suc}
 use mathlib.Core.Bool.{Bool, true, false, not, cond, ◌||◌}
 use mathlib.Core.List.{List, [], ◌∷◌}
 use mathlib.Core.Option.{Option, some, none}
-use mathlib.Core.Path.{◌≡◌, refl}
+use mathlib.Core.Path.{◌≡◌}
 use denote.Enum.Declared.{tag_of}
 use lib.Dec.{T}
 use lib.ListN.{length}
 use mir.Val.{has_key}
 use types.Run.{OneOf, miss}
-use Rattle.protocol.specs.declared.Message.TheVariants as M
 use Rattle.protocol.specs.declared.Message.{Message}
-use Rattle.protocol.specs.declared.response.GssEncResponse.TheVariants as Gss
-use Rattle.protocol.specs.declared.response.SslResponse.TheVariants as Ssl
 use Rattle.protocol.specs.Each.{Each}
 use Rattle.protocol.specs.Fields.{Slot}
-use Rattle.protocol.specs.Kinds.{Kind, Mode, modes, find, mode_of, kind_in, the_table, frontend, backend, cancel, tls_answer, gss_answer}
+use Rattle.protocol.specs.Kinds.{Kind, Mode, modes, the_table}
 use Rattle.protocol.specs.Rules.{rules_of}
 use Rattle.protocol.specs.Views.{shown, view, rows, numbered}
 use Rattle.protocol.proofs.Find.{All, told_row}

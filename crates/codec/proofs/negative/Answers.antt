@@ -1,7 +1,6 @@
 -- `codec::negative` meets its contract: by the two readings of a count.
 use mathlib.Core.Path.{refl, sym}
 use native.Mathlib.Omega.{arith}
-use borrow.Author.Rules.{rules}
 use borrow.Author.Tests.{le-ltb}
 use Rattle.protocol.specs.Fields.{most, unsigned_count}
 use Rattle.codec.proofs.negative.Goals as goal

@@ -1,6 +1,5 @@
 -- `decode::decode` meets its contract: it decodes by the rules that are made of the mode.
 use mathlib.Core.Path.{ap, ◌∙◌}
-use borrow.Author.Rules.{rules}
 use Rattle.protocol.specs.declared.Rules.{Rules}
 use Rattle.protocol.specs.Decode.{decode_of}
 use Rattle.decode.proofs.decode.Goals as goal

@@ -1,6 +1,5 @@
 -- `element::element_in` meets its contract: 11, unless there is the list and the number is below its count.
 use mathlib.Core.Path.{refl, ◌∙◌}
-use borrow.Author.Rules.{rules}
 use borrow.Author.Tests.{lt-ltb, le-ltb}
 use Rattle.protocol.specs.Elements.{element_at}
 use Rattle.element.proofs.Reached.{fits_at}

@@ -1,6 +1,5 @@
 -- `element::error_field_at` meets its contract: past those before it, and then the field.
 use mathlib.Core.Path.{refl, ap, sym, ◌∙◌}
-use borrow.Author.Rules.{rules}
 use Rattle.protocol.specs.Elements.{element_by}
 use Rattle.protocol.specs.Kinds.{error_field}
 use Rattle.codec.specs.CursorRead.{passed_read}

@@ -1,6 +1,5 @@
 -- `element::field_at` meets its contract: past those before it, and then the field.
 use mathlib.Core.Path.{refl, ap, sym, ◌∙◌}
-use borrow.Author.Rules.{rules}
 use Rattle.protocol.specs.declared.Element.TheVariants as E
 use Rattle.protocol.specs.Elements.{element_by}
 use Rattle.protocol.specs.Kinds.{row_field, row_field_of}

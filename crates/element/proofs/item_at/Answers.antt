@@ -1,6 +1,5 @@
 -- `element::item_at` meets its contract: sort by sort.
 use mathlib.Core.Path.{refl, ◌∙◌}
-use borrow.Author.Rules.{rules}
 use Rattle.element.proofs.item_at.Goals as goal
 
 pub oid_at-requires : goal.oid_at-requires

@@ -1,6 +1,5 @@
 -- `element::value_at` meets its contract: past those before it, and then the value.
 use mathlib.Core.Path.{refl}
-use borrow.Author.Rules.{rules}
 use Rattle.protocol.specs.Elements.{element_by}
 use Rattle.protocol.specs.Kinds.{value_element}
 use Rattle.element.proofs.value_at.Goals as goal

@@ -2,7 +2,6 @@
 use mathlib.Core.Option.{some}
 use mathlib.Core.Path.{refl}
 use native.Mathlib.Omega.{arith}
-use borrow.Author.Rules.{rules}
 use lib.ListN.{length}
 use Rattle.protocol.specs.Kinds.{frontend}
 use Rattle.writers.proofs.Encoding.{Judged, judged, room_of, refused, finished}

@@ -1,22 +1,12 @@
 -- The loop of `encode::put_values`.
-use Prim.Native.Nat.{ℕ, ◌+◌, ◌*◌, ◌-◌, ◌≤◌}
+use Prim.Native.Nat.{◌+◌, ◌*◌, ◌-◌, ◌≤◌}
 use mathlib.Core.Bool.{true}
-use mathlib.Core.List.{List}
-use mathlib.Core.Path.{◌≡◌, refl, ap, ◌∙◌, sym}
-use native.Mathlib.Omega.{arith}
-use borrow.Author.Rules.{rules}
-use lib.IntN.{ℤ}
-use lib.ListN.{length, drop, length-take, length-drop}
-use Rattle.protocol.specs.Bytes.{be}
+use mathlib.Core.Path.{◌≡◌}
+use lib.ListN.{length, drop}
 use Rattle.protocol.specs.Encode.{values_given}
-use Rattle.protocol.specs.Fields.{unsigned_count, bytes}
-use Rattle.protocol.specs.Kinds.{values}
 use Rattle.writers.specs.Given.{is_some}
-use Rattle.writers.specs.Writing.{write, Wrote}
-use Rattle.writers.proofs.Laws.{turn, ◌then◌, drop-end}
-use Rattle.writers.proofs.Puts.{same_size}
-use Rattle.writers.proofs.ValueLaws.{value_right, value_over, values_bytes, values_more, values_are}
-use Rattle.encode.specs.Writing.{WroteGiven}
+use Rattle.writers.specs.Writing.{write}
+use Rattle.writers.proofs.ValueLaws.{values_bytes}
 use Rattle.encode.proofs.put_values.Given as goal
 
 abbrev pub invariant-loop-i : goal.invariant-loop-i

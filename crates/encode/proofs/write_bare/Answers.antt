@@ -1,7 +1,6 @@
 -- `encode::write_bare` meets its contract.
 use mathlib.Core.Path.{refl}
 use native.Mathlib.Omega.{arith}
-use borrow.Author.Rules.{rules}
 use Rattle.protocol.specs.Each.{bytes_of_each}
 use Rattle.protocol.specs.WellFormed.{body_bytes}
 use Rattle.writers.proofs.Encoding.{framed_put}

@@ -1,7 +1,6 @@
 -- `envelope::fieldless` meets its contract: the envelope, and then nothing.
 use mathlib.Core.List.{[]}
 use mathlib.Core.Path.{sym, ◌∙◌}
-use borrow.Author.Rules.{rules}
 use Rattle.protocol.specs.Kinds.{typed}
 use Rattle.envelope.proofs.Points.{done, begin_made, none_made, ends}
 use Rattle.envelope.proofs.fieldless.Goals as goal

@@ -1,10 +1,7 @@
 -- `envelope::frame_end` meets its contract: the length's checks, one after the other.
-use Prim.Native.Nat.{ℕ, ◌<◌, ◌≤◌}
-use mathlib.Core.Path.{◌≡◌, refl, ap, sym, ◌∙◌}
+use mathlib.Core.Path.{refl}
 use native.Mathlib.Omega.{arith}
-use borrow.Author.Rules.{rules}
 use borrow.Author.Tests.{lt-ltb, le-ltb}
-use lib.IntN.{ℤ, pos}
 use Rattle.protocol.proofs.Numbers.{lower, upper}
 use Rattle.envelope.specs.Steps.{end_of}
 use Rattle.envelope.proofs.frame_end.Goals as goal

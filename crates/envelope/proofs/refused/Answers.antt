@@ -1,6 +1,5 @@
 -- `envelope::refused` meets its contract: case by case of the list's answer.
 use mathlib.Core.Path.{refl}
-use borrow.Author.Rules.{rules}
 use Rattle.envelope.proofs.refused.Goals as goal
 
 pub returns-in-Refused : goal.returns-in-Refused

@@ -1,7 +1,6 @@
 -- `envelope::unframed` meets its contract: case by case of the header.
 use Prim.Native.Nat.{ℕ}
 use mathlib.Core.Path.{◌≡◌, refl}
-use borrow.Author.Rules.{rules}
 use Rattle.protocol.specs.declared.Decoded.TheVariants as D
 use Rattle.envelope.specs.Steps.{unframed_of}
 use Rattle.envelope.specs.declared.Header.TheVariants as H

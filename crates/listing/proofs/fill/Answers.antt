@@ -1,11 +1,8 @@
 -- `listing::fill` meets its contract: the invariant says which lines are left to write.
-use Prim.Native.Nat.{◌+◌, ◌*◌, ◌≤◌}
-use mathlib.Core.Path.{◌≡◌, refl}
+use mathlib.Core.Path.{refl}
 use native.Mathlib.Omega.{arith}
 use borrow.Author.Rules.{rules}
-use lib.ListN.{length}
-use Rattle.listing.specs.Listing.{lines_of}
-use Rattle.listing.proofs.Filling.{Rest, next, last}
+use Rattle.listing.proofs.Filling.{next, last}
 use Rattle.listing.proofs.fill.Goals as goal
 
 pub loop-lines-init : goal.loop-lines-init

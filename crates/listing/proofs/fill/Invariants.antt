@@ -1,11 +1,9 @@
 -- The loop of `listing::fill`.
 use Prim.Native.Nat.{◌+◌, ◌*◌, ◌≤◌}
-use mathlib.Core.Path.{◌≡◌, refl}
-use native.Mathlib.Omega.{arith}
-use borrow.Author.Rules.{rules}
+use mathlib.Core.Path.{◌≡◌}
 use lib.ListN.{length}
 use Rattle.listing.specs.Listing.{lines_of}
-use Rattle.listing.proofs.Filling.{Rest, next, last}
+use Rattle.listing.proofs.Filling.{Rest}
 use Rattle.listing.proofs.fill.Given as goal
 
 abbrev pub invariant-loop-lines : goal.invariant-loop-lines

@@ -1,7 +1,6 @@
 -- `listing::put_line` meets its contract: by what is left.
 use mathlib.Core.Path.{refl}
 use native.Mathlib.Omega.{arith}
-use borrow.Author.Rules.{rules}
 use Rattle.listing.specs.Listing.{line_of}
 use Rattle.listing.proofs.put_line.Goals as goal
 

@@ -1,7 +1,6 @@
 -- `listing::put_step` meets its contract: each case of the step is a line.
 use mathlib.Core.Path.{◌≡◌, refl, ap, sym, ◌∙◌}
 use native.Mathlib.Omega.{arith}
-use borrow.Author.Rules.{rules}
 use Rattle.protocol.specs.Rules.{rules_of}
 use Rattle.protocol.specs.Stream.{frame, step_at}
 use Rattle.listing.specs.Listing.{step_of, step_line}

@@ -1,7 +1,6 @@
 -- `listing::step_at` meets its contract: the place is tested first, and then the rest is decoded.
 use mathlib.Core.Path.{ap, sym, ◌∙◌}
 use native.Mathlib.Omega.{arith}
-use borrow.Author.Rules.{rules}
 use Rattle.protocol.specs.Stream.{step_by}
 use Rattle.listing.proofs.Steps.{step_over, step_within}
 use Rattle.listing.proofs.step_at.Goals as goal

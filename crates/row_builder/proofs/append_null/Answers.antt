@@ -1,7 +1,6 @@
 -- `row_builder::append_null` meets its contract, as `append` does.
 use mathlib.Core.Option.{none}
 use mathlib.Core.Path.{◌≡◌, sym, ◌∙◌}
-use borrow.Author.Rules.{rules}
 use Rattle.protocol.specs.Bytes.{bits_of}
 use Rattle.protocol.specs.Fields.{value_bytes}
 use Rattle.row_builder.specs.Building.{append_of}

@@ -1,6 +1,5 @@
 -- `row_builder::begin` meets its contract: the room for an empty row, and its head.
 use mathlib.Core.Path.{◌≡◌, refl, ap, sym, ◌∙◌}
-use borrow.Author.Rules.{rules}
 use Rattle.protocol.specs.Kinds.{data_row}
 use Rattle.row_builder.specs.Building.{begin_of, built_by}
 use Rattle.row_builder.proofs.Rows.{begun_is, done, refused}

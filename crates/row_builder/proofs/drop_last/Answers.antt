@@ -1,6 +1,5 @@
 -- `row_builder::drop_last` meets its contract: the shorter row, and its head.
 use mathlib.Core.Path.{refl, sym, ◌∙◌}
-use borrow.Author.Rules.{rules}
 use Rattle.row_builder.proofs.Rows.{done, dropped_is, refused}
 use Rattle.row_builder.proofs.drop_last.Goals as goal
 

@@ -1,6 +1,5 @@
 -- `row_builder::finish` meets its contract.
 use mathlib.Core.Path.{refl, sym, ◌∙◌}
-use borrow.Author.Rules.{rules}
 use Rattle.row_builder.specs.Building.{finish_of}
 use Rattle.row_builder.proofs.finish.Goals as goal
 

@@ -1,7 +1,6 @@
 -- `row_builder::last_column` meets its contract: the head, and then the columns.
 use mathlib.Core.Path.{refl, sym, ◌∙◌}
 use native.Mathlib.Omega.{arith}
-use borrow.Author.Rules.{rules}
 use lib.Seq.{length-take-le}
 use Rattle.row_builder.specs.Steps.{last_column_of}
 use Rattle.row_builder.proofs.Heads.{column_is}

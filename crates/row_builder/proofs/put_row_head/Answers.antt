@@ -1,7 +1,6 @@
 -- `row_builder::put_row_head` meets its contract: the head of a frame, and the count behind it.
 use mathlib.Core.Path.{refl}
 use native.Mathlib.Omega.{arith}
-use borrow.Author.Rules.{rules}
 use Rattle.protocol.specs.Kinds.{data_row}
 use Rattle.writers.proofs.Laws.{◌then◌}
 use Rattle.writers.proofs.Puts.{headed, same_size}

@@ -1,6 +1,5 @@
 -- `row_builder::row_of` meets its contract: case by case of the answer.
 use mathlib.Core.Path.{refl}
-use borrow.Author.Rules.{rules}
 use Rattle.row_builder.specs.Building.{built_by}
 use Rattle.row_builder.proofs.row_of.Goals as goal
 

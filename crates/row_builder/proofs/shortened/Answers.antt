@@ -1,6 +1,5 @@
 -- `row_builder::shortened` meets its contract: the last column's start is the new size.
 use mathlib.Core.Path.{refl, sym, ◌∙◌}
-use borrow.Author.Rules.{rules}
 use borrow.Author.Tests.{ne_eqb}
 use Rattle.row_builder.specs.Building.{drop_of}
 use Rattle.row_builder.proofs.Heads.{no_row_lem, row_there}

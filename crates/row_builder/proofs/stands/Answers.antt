@@ -1,6 +1,5 @@
 -- `row_builder::stands` meets its contract: whether there is a last column's start to tell.
 use mathlib.Core.Path.{sym, ◌∙◌}
-use borrow.Author.Rules.{rules}
 use Rattle.row_builder.proofs.Heads.{no_row_lem, row_there}
 use Rattle.row_builder.proofs.stands.Goals as goal
 

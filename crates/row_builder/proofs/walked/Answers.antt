@@ -1,6 +1,5 @@
 -- `row_builder::walked` meets its contract: one walk, and another behind it.
 use mathlib.Core.Path.{◌≡◌, ap, sym, ◌∙◌}
-use borrow.Author.Rules.{rules}
 use lib.ListN.{length}
 use Rattle.codec.specs.CursorRead.{passed_read}
 use Rattle.codec.specs.declared.Passed.{Passed}

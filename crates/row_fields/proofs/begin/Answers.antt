@@ -1,7 +1,6 @@
 -- `row_fields::begin` meets its contract.
 use mathlib.Core.Path.{◌≡◌, refl, ◌∙◌, sym}
 use native.Mathlib.Omega.{arith}
-use borrow.Author.Rules.{rules}
 use lib.ListN.{length}
 use Rattle.protocol.specs.Bytes.{be}
 use Rattle.protocol.specs.Kinds.{row_description}

@@ -1,5 +1,5 @@
 -- `row_fields::each` meets its contract: a turn takes one field from what is left.
-use Rattle.std.proofs.Common.{List, ◌+◌, ◌≡◌, ap, drop, sym, ◌∙◌}
+use Rattle.std.proofs.Common.{List, ap, sym, ◌∙◌}
 use Rattle.protocol.specs.declared.data.FieldDescription.{FieldDescription}
 use Rattle.writers.proofs.Laws.{drop_more, drop-end}
 use Rattle.row_fields.specs.Passes.{all_pass, all_out}

@@ -1,5 +1,5 @@
 -- What is left of the pass is what there was at first.
-use Rattle.std.proofs.Common.{◌≡◌, ◌-◌, ◌≤◌, length, drop}
+use Rattle.std.proofs.Common.{◌≡◌, ◌-◌, length, drop}
 use Rattle.row_fields.specs.Passes.{all_pass, all_out}
 use Rattle.row_fields.proofs.each.Given as goal
 

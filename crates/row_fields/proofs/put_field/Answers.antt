@@ -1,6 +1,5 @@
 -- `row_fields::put_field` meets its contract.
 use native.Mathlib.Omega.{arith}
-use borrow.Author.Rules.{rules}
 use mir.Syntax.{w16, w32}
 use Rattle.writers.proofs.Signs.{bits_of_lem}
 use Rattle.row_fields.proofs.Fields.{fielded}

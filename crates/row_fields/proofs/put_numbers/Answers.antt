@@ -1,7 +1,6 @@
 -- `row_fields::put_numbers` meets its contract.
 use mathlib.Core.Path.{refl}
 use native.Mathlib.Omega.{arith}
-use borrow.Author.Rules.{rules}
 use Rattle.row_fields.proofs.put_numbers.Goals as goal
 
 pub returns : goal.returns

@@ -1,7 +1,6 @@
 -- `row_fields::step` meets its contract.
 use mathlib.Core.Path.{◌≡◌}
 use native.Mathlib.Omega.{arith}
-use borrow.Author.Rules.{rules}
 use Rattle.row_fields.specs.Passes.{after}
 use Rattle.row_fields.proofs.Fields.{stepped, roomy, put, short, kept}
 use Rattle.row_fields.proofs.step.Goals as goal

@@ -1,6 +1,5 @@
 -- `row_fields::writing_pass` meets its contract.
 use mathlib.Core.Path.{refl}
-use borrow.Author.Rules.{rules}
 use Rattle.row_fields.specs.Passes.{writing_pass}
 use Rattle.row_fields.proofs.writing_pass.Goals as goal
 

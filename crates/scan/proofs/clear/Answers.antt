@@ -1,5 +1,5 @@
 -- `scan::clear` meets its contract.
-use Rattle.std.proofs.Common.{◌+◌, ◌≤◌, ◌≡◌, ap, sym, ◌∙◌, arith}
+use Rattle.std.proofs.Common.{◌+◌, ap, sym, ◌∙◌, arith}
 use Rattle.std.proofs.lemmas.Bool.{false≢true}
 use Rattle.scan.specs.Zero.{zero_from}
 use Rattle.scan.proofs.Zeros.{at_other}

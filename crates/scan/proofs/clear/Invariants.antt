@@ -1,12 +1,8 @@
 -- The loop of `scan::clear`.
 use Prim.Native.Nat.{◌-◌, ◌+◌, ◌≤◌}
-use mathlib.Core.Bool.{true, false≢true}
-use mathlib.Core.Logic.{⊎_elim}
-use mathlib.Core.Path.{◌≡◌, ap, ◌∙◌, sym}
-use native.Mathlib.Omega.{arith}
-use borrow.Author.Rules.{rules}
+use mathlib.Core.Bool.{true}
+use mathlib.Core.Path.{◌≡◌}
 use Rattle.scan.specs.Zero.{zero_from}
-use Rattle.scan.proofs.Zeros.{at_other}
 use Rattle.scan.proofs.clear.Given as goal
 
 abbrev pub invariant-loop-k : goal.invariant-loop-k

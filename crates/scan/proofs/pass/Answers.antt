@@ -1,5 +1,4 @@
 -- `scan::pass` meets its contract.
-use borrow.Author.Rules.{rules}
 use Rattle.scan.proofs.pass.Goals as goal
 
 pub returns-then-clear : goal.returns-then-clear

@@ -1,11 +1,6 @@
 -- `scan::pass_blocks` meets its contract.
-use Prim.Native.Nat.{◌-◌}
 use mathlib.Core.Path.{refl}
 use native.Mathlib.Omega.{arith}
-use borrow.Author.Rules.{rules}
-use borrow.Author.Tests.{not-false}
-use lib.ListN.{length}
-use Rattle.scan.specs.Zero.{Passed}
 use Rattle.scan.proofs.Zeros.{both}
 use Rattle.scan.proofs.pass_blocks.Goals as goal
 

@@ -1,12 +1,7 @@
 -- The loop of `scan::pass_blocks`.
 use Prim.Native.Nat.{◌-◌}
-use mathlib.Core.Path.{refl}
-use native.Mathlib.Omega.{arith}
-use borrow.Author.Rules.{rules}
-use borrow.Author.Tests.{not-false}
 use lib.ListN.{length}
 use Rattle.scan.specs.Zero.{Passed}
-use Rattle.scan.proofs.Zeros.{both}
 use Rattle.scan.proofs.pass_blocks.Given as goal
 
 abbrev pub invariant-loop-i : goal.invariant-loop-i

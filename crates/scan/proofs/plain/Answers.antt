@@ -1,10 +1,6 @@
 -- `scan::plain` meets its contract.
-use Prim.Native.Nat.{◌-◌}
-use mathlib.Core.Path.{◌≡◌, refl, ◌∙◌, sym}
+use mathlib.Core.Path.{refl, ◌∙◌, sym}
 use native.Mathlib.Omega.{arith}
-use borrow.Author.Rules.{rules}
-use lib.ListN.{length}
-use Rattle.scan.specs.Zero.{zero_from}
 use Rattle.scan.proofs.Zeros.{at_end_lem, at_zero, at_other}
 use Rattle.scan.proofs.plain.Goals as goal
 

@@ -1,11 +1,8 @@
 -- The loop of `scan::plain`.
 use Prim.Native.Nat.{◌-◌}
-use mathlib.Core.Path.{◌≡◌, refl, ◌∙◌, sym}
-use native.Mathlib.Omega.{arith}
-use borrow.Author.Rules.{rules}
+use mathlib.Core.Path.{◌≡◌}
 use lib.ListN.{length}
 use Rattle.scan.specs.Zero.{zero_from}
-use Rattle.scan.proofs.Zeros.{at_end_lem, at_zero, at_other}
 use Rattle.scan.proofs.plain.Given as goal
 
 abbrev pub invariant-loop-i : goal.invariant-loop-i

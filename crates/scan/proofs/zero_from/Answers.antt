@@ -1,7 +1,5 @@
 -- `scan::zero_from` meets its contract: each pass leaves what the plain scan finds.
 use mathlib.Core.Path.{sym, ◌∙◌}
-use borrow.Author.Rules.{rules}
-use borrow.Author.Tests.{not-false}
 use Rattle.scan.proofs.Zeros.{at_end_lem}
 use Rattle.scan.proofs.zero_from.Goals as goal
 

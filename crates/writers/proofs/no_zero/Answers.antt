@@ -4,7 +4,6 @@ use mathlib.Core.Bool.{Bool, true, false, cond, not, ◌&&◌}
 use mathlib.Core.List.{List, [], ◌∷◌}
 use mathlib.Core.Path.{◌≡◌, refl, ap, ◌∙◌}
 use native.Mathlib.Nat.{zero-add}
-use borrow.Author.Rules.{rules}
 use lib.Dec.{eqb, leb, leb-suc-suc, leb-suc-zero}
 use lib.ListN.{length}
 use Rattle.protocol.specs.Bytes.{no_zero}

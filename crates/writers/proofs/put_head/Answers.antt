@@ -1,6 +1,5 @@
 -- `writers::put_head` meets its contract.
 use mathlib.Core.Bool.{◌&&◌}
-use borrow.Author.Rules.{rules}
 use borrow.Author.Tests.{leb-true}
 use Rattle.protocol.specs.Kinds.{large_frame}
 use Rattle.protocol.proofs.Basics.{and_left, and_right}

@@ -1,7 +1,6 @@
 -- `writers::put_pairs` meets its contract.
 use mathlib.Core.Bool.{true}
 use native.Mathlib.Omega.{arith}
-use borrow.Author.Rules.{rules}
 use Rattle.writers.proofs.Puts.{has_room, put, kept}
 use Rattle.writers.proofs.put_pairs.Goals as goal
 

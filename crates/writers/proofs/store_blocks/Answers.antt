@@ -1,10 +1,6 @@
 -- `writers::store_blocks` meets its contract.
-use Prim.Native.Nat.{◌+◌, ◌-◌, ◌≤◌}
-use mathlib.Core.Path.{◌≡◌}
 use native.Mathlib.Omega.{arith}
 use borrow.Author.Rules.{rules}
-use lib.ListN.{length, take}
-use Rattle.writers.specs.Writing.{write}
 use Rattle.writers.proofs.Laws.{further, ended}
 use Rattle.writers.proofs.Puts.{same_size}
 use Rattle.writers.proofs.store_blocks.Goals as goal

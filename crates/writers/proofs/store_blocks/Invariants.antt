@@ -1,12 +1,8 @@
 -- The loop of `writers::store_blocks`.
 use Prim.Native.Nat.{◌+◌, ◌-◌, ◌≤◌}
 use mathlib.Core.Path.{◌≡◌}
-use native.Mathlib.Omega.{arith}
-use borrow.Author.Rules.{rules}
 use lib.ListN.{length, take}
 use Rattle.writers.specs.Writing.{write}
-use Rattle.writers.proofs.Laws.{further, ended}
-use Rattle.writers.proofs.Puts.{same_size}
 use Rattle.writers.proofs.store_blocks.Given as goal
 
 abbrev pub invariant-loop-i : goal.invariant-loop-i

@@ -1,9 +1,7 @@
 -- `writers::store_each` meets its contract.
-use Prim.Native.Nat.{◌+◌, ◌-◌, ◌≤◌}
-use mathlib.Core.Path.{◌≡◌, refl, ap, ◌∙◌, sym}
+use mathlib.Core.Path.{refl, ap, ◌∙◌, sym}
 use native.Mathlib.Omega.{arith}
 use borrow.Author.Rules.{rules}
-use lib.ListN.{length, drop}
 use Rattle.writers.specs.Writing.{write}
 use Rattle.writers.proofs.Laws.{drop_more, drop-end}
 use Rattle.writers.proofs.store_each.Goals as goal

@@ -1,11 +1,8 @@
 -- The loop of `writers::store_each`.
 use Prim.Native.Nat.{◌+◌, ◌-◌, ◌≤◌}
-use mathlib.Core.Path.{◌≡◌, refl, ap, ◌∙◌, sym}
-use native.Mathlib.Omega.{arith}
-use borrow.Author.Rules.{rules}
+use mathlib.Core.Path.{◌≡◌}
 use lib.ListN.{length, drop}
 use Rattle.writers.specs.Writing.{write}
-use Rattle.writers.proofs.Laws.{drop_more, drop-end}
 use Rattle.writers.proofs.store_each.Given as goal
 
 abbrev pub invariant-loop-i : goal.invariant-loop-i

@@ -1,6 +1,5 @@
 -- `writers::store_ends` meets its contract.
 use native.Mathlib.Omega.{arith}
-use borrow.Author.Rules.{rules}
 use Rattle.writers.proofs.Laws.{ended}
 use Rattle.writers.proofs.store_ends.Goals as goal
 

@@ -1,5 +1,4 @@
 -- `writers::store_formats` meets its contract.
-use borrow.Author.Rules.{rules}
 use Rattle.protocol.specs.Fields.{bytes}
 use Rattle.writers.proofs.Laws.{◌then◌}
 use Rattle.writers.proofs.Lists.{length-items}

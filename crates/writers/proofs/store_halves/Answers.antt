@@ -1,14 +1,12 @@
 -- `writers::store_halves` meets its contract.
-use Prim.Native.Nat.{ℕ, ◌+◌, ◌*◌, ◌-◌, ◌≤◌}
+use Prim.Native.Nat.{◌+◌}
 use mathlib.Core.List.{List}
-use mathlib.Core.Path.{◌≡◌, ap, ◌∙◌, sym}
+use mathlib.Core.Path.{ap, ◌∙◌, sym}
 use native.Mathlib.Omega.{arith}
 use borrow.Author.Rules.{rules}
 use lib.IntN.{ℤ}
-use lib.ListN.{length, drop}
-use Rattle.protocol.specs.Encode.{items}
+use lib.ListN.{drop}
 use Rattle.protocol.specs.Fields.{items_bytes}
-use Rattle.protocol.specs.Kinds.{format}
 use Rattle.writers.specs.Writing.{write}
 use Rattle.writers.proofs.Laws.{turn, drop-end}
 use Rattle.writers.proofs.Lists.{halves_more, length_halves}

@@ -1,17 +1,13 @@
 -- The loop of `writers::store_halves`.
 use Prim.Native.Nat.{ℕ, ◌+◌, ◌*◌, ◌-◌, ◌≤◌}
 use mathlib.Core.List.{List}
-use mathlib.Core.Path.{◌≡◌, ap, ◌∙◌, sym}
-use native.Mathlib.Omega.{arith}
-use borrow.Author.Rules.{rules}
+use mathlib.Core.Path.{◌≡◌}
 use lib.IntN.{ℤ}
 use lib.ListN.{length, drop}
 use Rattle.protocol.specs.Encode.{items}
 use Rattle.protocol.specs.Fields.{items_bytes}
 use Rattle.protocol.specs.Kinds.{format}
 use Rattle.writers.specs.Writing.{write}
-use Rattle.writers.proofs.Laws.{turn, drop-end}
-use Rattle.writers.proofs.Lists.{halves_more, length_halves}
 use Rattle.writers.proofs.store_halves.Given as goal
 
 abbrev pub all : List ℤ → List ℕ

@@ -2,7 +2,6 @@
 use Prim.Native.Nat.{◌+◌, ◌-◌}
 use mathlib.Core.Path.{◌≡◌}
 use native.Mathlib.Omega.{arith}
-use borrow.Author.Rules.{rules}
 use Rattle.protocol.specs.WellFormed.{header}
 use Rattle.writers.proofs.Laws.{◌then◌}
 use Rattle.writers.proofs.store_head.Goals as goal

@@ -1,5 +1,4 @@
 -- `writers::store_pairs` meets its contract.
-use borrow.Author.Rules.{rules}
 use Rattle.writers.proofs.Laws.{◌then◌, nothing}
 use Rattle.writers.proofs.store_pairs.Goals as goal
 

@@ -1,5 +1,4 @@
 -- `writers::store_text` meets its contract.
-use borrow.Author.Rules.{rules}
 use Rattle.writers.proofs.Laws.{◌then◌}
 use Rattle.writers.proofs.store_text.Goals as goal
 

@@ -1,6 +1,5 @@
 -- `writers::store_turned` meets its contract.
 use native.Mathlib.Omega.{arith}
-use borrow.Author.Rules.{rules}
 use Rattle.writers.proofs.Laws.{◌then◌, turned_wrote}
 use Rattle.writers.proofs.store_turned.Goals as goal
 

@@ -1,5 +1,4 @@
 -- `writers::store_value` meets its contract.
-use borrow.Author.Rules.{rules}
 use Rattle.writers.proofs.Laws.{◌then◌}
 use Rattle.writers.proofs.store_value.Goals as goal
 

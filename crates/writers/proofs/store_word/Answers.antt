@@ -1,5 +1,4 @@
 -- `writers::store_word` meets its contract.
-use borrow.Author.Rules.{rules}
 use Rattle.protocol.specs.Bytes.{be}
 use Rattle.writers.proofs.Laws.{◌then◌}
 use Rattle.writers.proofs.store_word.Goals as goal

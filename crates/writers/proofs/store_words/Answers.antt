@@ -1,13 +1,11 @@
 -- `writers::store_words` meets its contract.
-use Prim.Native.Nat.{ℕ, ◌+◌, ◌*◌, ◌-◌, ◌≤◌}
+use Prim.Native.Nat.{ℕ, ◌+◌}
 use mathlib.Core.List.{List}
-use mathlib.Core.Path.{◌≡◌, ap, ◌∙◌, sym}
+use mathlib.Core.Path.{ap, ◌∙◌, sym}
 use native.Mathlib.Omega.{arith}
 use borrow.Author.Rules.{rules}
-use lib.ListN.{length, drop}
-use Rattle.protocol.specs.Encode.{items}
+use lib.ListN.{drop}
 use Rattle.protocol.specs.Fields.{items_bytes}
-use Rattle.protocol.specs.Kinds.{oid}
 use Rattle.writers.specs.Writing.{write}
 use Rattle.writers.proofs.Laws.{turn, drop-end}
 use Rattle.writers.proofs.Lists.{words_more, length_words}

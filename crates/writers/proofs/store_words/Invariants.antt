@@ -1,16 +1,12 @@
 -- The loop of `writers::store_words`.
 use Prim.Native.Nat.{ℕ, ◌+◌, ◌*◌, ◌-◌, ◌≤◌}
 use mathlib.Core.List.{List}
-use mathlib.Core.Path.{◌≡◌, ap, ◌∙◌, sym}
-use native.Mathlib.Omega.{arith}
-use borrow.Author.Rules.{rules}
+use mathlib.Core.Path.{◌≡◌}
 use lib.ListN.{length, drop}
 use Rattle.protocol.specs.Encode.{items}
 use Rattle.protocol.specs.Fields.{items_bytes}
 use Rattle.protocol.specs.Kinds.{oid}
 use Rattle.writers.specs.Writing.{write}
-use Rattle.writers.proofs.Laws.{turn, drop-end}
-use Rattle.writers.proofs.Lists.{words_more, length_words}
 use Rattle.writers.proofs.store_words.Given as goal
 
 abbrev pub all : List ℕ → List ℕ

@@ -1,5 +1,4 @@
 -- `codec::Cursor::byte` meets its contract.
-use borrow.Author.Rules.{rules}
 use native.Mathlib.Omega.{arith}
 use mathlib.Core.Path.{sym}
 use Rattle.codec.proofs.Numbers.{byte_at, number_got, number_cut}

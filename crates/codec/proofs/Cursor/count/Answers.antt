@@ -1,15 +1,14 @@
 -- `codec::Cursor::count` meets its contract: by what the count's two bytes are.
-use Prim.Native.Nat.{◌+◌, ◌*◌, ◌≤◌, ◌<◌}
+use Prim.Native.Nat.{◌≤◌}
 use mathlib.Core.Path.{◌≡◌, ap, sym, ◌∙◌}
 use native.Mathlib.Nat.{mul-le-mul}
 use native.Mathlib.Omega.{arith}
-use borrow.Author.Rules.{rules}
 use borrow.Author.Tests.{ltb-true, ltb-false}
 use lib.ListN.{length}
 use Rattle.codec.specs.CursorRead.{half_read}
 use Rattle.protocol.specs.Fields.{most}
 use Rattle.protocol.specs.Reading.{got, read_number}
-use Rattle.protocol.proofs.Numbers.{Whole, whole}
+use Rattle.protocol.proofs.Numbers.{whole}
 use Rattle.codec.proofs.Lists.{count_short, count_negative, count_large, count-got}
 use Rattle.codec.proofs.Cursor.count.Goals as goal
 

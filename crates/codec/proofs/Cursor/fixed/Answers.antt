@@ -1,11 +1,10 @@
 -- `codec::Cursor::fixed` meets its contract.
-use Prim.Native.Nat.{◌+◌, ◌*◌, ◌≤◌, ◌-◌}
+use Prim.Native.Nat.{◌+◌, ◌*◌, ◌≤◌}
 use mathlib.Core.Path.{◌≡◌, refl, ap, sym, ◌∙◌}
 use native.Mathlib.Omega.{arith}
-use borrow.Author.Rules.{rules}
 use lib.ListN.{length}
 use Rattle.protocol.specs.Reading.{got, read_count}
-use Rattle.protocol.proofs.Counts.{Counted, counted_is}
+use Rattle.protocol.proofs.Counts.{counted_is}
 use Rattle.codec.specs.CursorRead.{listed_read}
 use Rattle.codec.specs.Fixed.{read_fixed}
 use Rattle.codec.proofs.Cursor.fixed.Goals as goal

@@ -1,6 +1,5 @@
 -- `codec::Cursor::formats` meets its contract.
 use mathlib.Core.Path.{◌∙◌}
-use borrow.Author.Rules.{rules}
 use Rattle.codec.proofs.Lists.{format_list}
 use Rattle.codec.proofs.Cursor.formats.Goals as goal
 

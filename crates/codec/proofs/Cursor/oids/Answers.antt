@@ -1,6 +1,5 @@
 -- `codec::Cursor::oids` meets its contract.
 use mathlib.Core.Path.{◌∙◌}
-use borrow.Author.Rules.{rules}
 use Rattle.codec.proofs.Lists.{oid_list}
 use Rattle.codec.proofs.Cursor.oids.Goals as goal
 

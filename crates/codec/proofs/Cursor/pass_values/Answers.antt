@@ -1,9 +1,5 @@
 -- `codec::Cursor::pass_values` meets its contract. The invariant: what is left to pass from here is what there was to pass at first.
-use mathlib.Core.Path.{◌≡◌, refl, ap, sym, ◌∙◌}
-use borrow.Author.Rules.{rules}
-use Rattle.protocol.specs.declared.Rules.{Rules}
-use Rattle.protocol.specs.Kinds.{nullable}
-use Rattle.protocol.specs.Reading.{pass_items}
+use mathlib.Core.Path.{refl, ap, sym, ◌∙◌}
 use Rattle.protocol.proofs.Counts.{pass_none, pass_refused, pass_turn}
 use Rattle.codec.specs.CursorRead.{passed_read}
 use Rattle.codec.proofs.Cursor.pass_values.Goals as goal

@@ -1,11 +1,7 @@
 -- The loop of `codec::Cursor::pass_values`.
-use mathlib.Core.Path.{◌≡◌, refl, ap, sym, ◌∙◌}
-use borrow.Author.Rules.{rules}
-use Rattle.protocol.specs.declared.Rules.{Rules}
+use mathlib.Core.Path.{◌≡◌}
 use Rattle.protocol.specs.Kinds.{nullable}
 use Rattle.protocol.specs.Reading.{pass_items}
-use Rattle.protocol.proofs.Counts.{pass_none, pass_refused, pass_turn}
-use Rattle.codec.specs.CursorRead.{passed_read}
 use Rattle.codec.proofs.Cursor.pass_values.Given as goal
 
 abbrev pub invariant-loop-left : goal.invariant-loop-left

@@ -2,9 +2,7 @@
 use Prim.Native.Nat.{ℕ, ◌-◌}
 use mathlib.Core.Path.{◌≡◌, ap}
 use native.Mathlib.Omega.{arith}
-use borrow.Author.Rules.{rules}
 use lib.ListN.{length}
-use Rattle.protocol.specs.declared.Span.{Span}
 use Rattle.protocol.specs.Reading.{got}
 use Rattle.codec.proofs.Cursor.rest.Goals as goal
 

@@ -1,5 +1,4 @@
 -- `codec::Cursor::text` meets its contract.
-use borrow.Author.Rules.{rules}
 use Rattle.codec.proofs.Texts.{not_before, at_zero, at_end_lem}
 use Rattle.codec.proofs.Cursor.text.Goals as goal
 

@@ -1,12 +1,11 @@
 -- `codec::Cursor::value` meets its contract: by what the length word is.
-use Prim.Native.Nat.{◌+◌, ◌≤◌, ◌<◌}
+use Prim.Native.Nat.{◌≤◌}
 use mathlib.Core.Path.{◌≡◌, ap, sym, ◌∙◌}
 use native.Mathlib.Omega.{arith}
-use borrow.Author.Rules.{rules}
 use lib.ListN.{length}
 use Rattle.codec.specs.CursorRead.{word_read}
 use Rattle.protocol.specs.Reading.{got, read_number}
-use Rattle.protocol.proofs.Numbers.{Whole, whole}
+use Rattle.protocol.proofs.Numbers.{whole}
 use Rattle.codec.proofs.Values.{value_short, value_null, value_below, value_cut, value_got}
 use Rattle.codec.proofs.Cursor.value.Goals as goal
 

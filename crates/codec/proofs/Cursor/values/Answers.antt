@@ -1,6 +1,5 @@
 -- `codec::Cursor::values` meets its contract: the count, then each value.
 use mathlib.Core.Path.{refl}
-use borrow.Author.Rules.{rules}
 use Rattle.protocol.specs.Each.{least_of_each}
 use Rattle.protocol.specs.Fields.{item_least}
 use Rattle.protocol.specs.Reading.{read_counted}

@@ -1,6 +1,5 @@
 -- `codec::Cursor::word` meets its contract.
 use native.Mathlib.Omega.{arith}
-use borrow.Author.Rules.{rules}
 use Rattle.codec.proofs.Numbers.{number_got, number_cut}
 use Rattle.codec.proofs.Cursor.word.Goals as goal
 

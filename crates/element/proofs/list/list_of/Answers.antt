@@ -1,13 +1,10 @@
 -- `element::list::list_of` meets its contract: an arm's kind has this one list, and the kinds of the last arm have none.
 use Prim.Native.Nat.{ℕ, zero, suc}
 use mathlib.Core.Bool.{Bool, true, false}
-use mathlib.Core.List.{List, [], ◌∷◌}
+use mathlib.Core.List.{List, ◌∷◌}
 use mathlib.Core.Option.{Option, none}
 use mathlib.Core.Path.{◌≡◌, refl, ap, sym, ◌∙◌}
-use borrow.Author.Rules.{rules}
-use denote.Enum.Declared.{tag_of}
 use lib.Dec.{T}
-use types.Run.{OneOf}
 use Rattle.protocol.specs.declared.List.{List as ListSlot}
 use Rattle.protocol.specs.declared.Message.{Message}
 use Rattle.protocol.specs.declared.Message.TheVariants as M
@@ -18,10 +15,8 @@ use Rattle.protocol.specs.declared.response.GssEncResponse.TheVariants as E
 use Rattle.protocol.specs.Each.{Each}
 use Rattle.protocol.specs.Elements.{Listed, list_in, list_of}
 use Rattle.protocol.specs.Fields.{Item, signed_count, Field, one, counted, ended, Slot}
-use Rattle.protocol.specs.Kinds.{Kind, find, the_table}
-use Rattle.protocol.specs.Views.{view, numbered}
-use Rattle.protocol.specs.contracts.Message as Msg
-use Rattle.protocol.proofs.Views.{places, passes}
+use Rattle.protocol.specs.Kinds.{the_table}
+use Rattle.protocol.specs.Views.{view}
 use Rattle.element.specs.OneList.{only}
 use Rattle.element.proofs.list.list_of.Goals as goal
 

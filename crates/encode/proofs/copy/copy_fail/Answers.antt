@@ -1,6 +1,5 @@
 -- `encode::copy::copy_fail` meets its contract.
 use mathlib.Core.Path.{refl}
-use borrow.Author.Rules.{rules}
 use Rattle.protocol.specs.Kinds as K
 use Rattle.encode.specs.Given as G
 use Rattle.encode.proofs.Shapes.{as_kind}

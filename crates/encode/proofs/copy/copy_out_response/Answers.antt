@@ -1,6 +1,5 @@
 -- `encode::copy::copy_out_response` meets its contract.
 use mathlib.Core.Path.{refl}
-use borrow.Author.Rules.{rules}
 use mir.Syntax.{w8}
 use Rattle.protocol.specs.Kinds as K
 use Rattle.writers.proofs.Signs.{bits_of_lem}

@@ -1,6 +1,5 @@
 -- `encode::copy::copy_response` meets its contract.
 use native.Mathlib.Omega.{arith}
-use borrow.Author.Rules.{rules}
 use lib.IntN.{ℤ, pos}
 use lib.ListN.{length}
 use Rattle.protocol.specs.Kinds as K

@@ -1,7 +1,6 @@
 -- `encode::copy::write_copy_response` meets its contract.
 use mathlib.Core.Path.{refl}
 use native.Mathlib.Omega.{arith}
-use borrow.Author.Rules.{rules}
 use borrow.Author.Tests.{le-leb}
 use lib.ListN.{length}
 use Rattle.protocol.specs.Each.{bytes_of_each}

@@ -1,7 +1,6 @@
 -- `encode::data::parameter_description` meets its contract.
 use Prim.Native.Nat.{◌≤◌}
 use native.Mathlib.Omega.{arith}
-use borrow.Author.Rules.{rules}
 use borrow.Author.Tests.{leb-true}
 use lib.ListN.{length}
 use Rattle.protocol.specs.Fields.{most, unsigned_count}

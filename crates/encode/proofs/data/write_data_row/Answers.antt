@@ -1,6 +1,5 @@
 -- `encode::data::write_data_row` meets its contract.
 use native.Mathlib.Omega.{arith}
-use borrow.Author.Rules.{rules}
 use Rattle.protocol.specs.Each.{bytes_of_each}
 use Rattle.protocol.specs.Encode.{values_given}
 use Rattle.protocol.specs.Fields.{bytes}

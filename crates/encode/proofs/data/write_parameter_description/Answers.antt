@@ -1,6 +1,5 @@
 -- `encode::data::write_parameter_description` meets its contract.
 use native.Mathlib.Omega.{arith}
-use borrow.Author.Rules.{rules}
 use borrow.Author.Tests.{le-leb}
 use Rattle.protocol.specs.Each.{bytes_of_each}
 use Rattle.protocol.specs.Encode.{items}

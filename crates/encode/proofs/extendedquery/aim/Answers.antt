@@ -1,6 +1,5 @@
 -- `encode::extendedquery::aim` meets its contract.
 use native.Mathlib.Omega.{arith}
-use borrow.Author.Rules.{rules}
 use lib.ListN.{length}
 use Rattle.protocol.specs.Kinds as K
 use Rattle.writers.proofs.Encoding.{Judged, judged, room_of, refused, finished}

@@ -1,6 +1,5 @@
 -- `encode::extendedquery::bind_complete` meets its contract.
 use mathlib.Core.Path.{refl}
-use borrow.Author.Rules.{rules}
 use Rattle.protocol.specs.Each.{able_each}
 use Rattle.protocol.specs.Kinds as K
 use Rattle.encode.specs.Given as G

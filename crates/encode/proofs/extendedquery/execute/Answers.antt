@@ -1,6 +1,5 @@
 -- `encode::extendedquery::execute` meets its contract.
 use native.Mathlib.Omega.{arith}
-use borrow.Author.Rules.{rules}
 use lib.ListN.{length}
 use mir.Syntax.{w32}
 use Rattle.protocol.specs.Kinds as K

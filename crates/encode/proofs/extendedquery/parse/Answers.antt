@@ -1,7 +1,6 @@
 -- `encode::extendedquery::parse` meets its contract.
 use Prim.Native.Nat.{◌≤◌}
 use native.Mathlib.Omega.{arith}
-use borrow.Author.Rules.{rules}
 use borrow.Author.Tests.{leb-true}
 use lib.ListN.{length}
 use Rattle.protocol.specs.Bytes.{no_zero}

@@ -1,7 +1,6 @@
 -- `encode::extendedquery::write_execute` meets its contract.
 use mathlib.Core.Path.{refl}
 use native.Mathlib.Omega.{arith}
-use borrow.Author.Rules.{rules}
 use Rattle.protocol.specs.Each.{bytes_of_each}
 use Rattle.protocol.specs.Fields.{bytes, atom_bytes}
 use Rattle.protocol.specs.Kinds as K

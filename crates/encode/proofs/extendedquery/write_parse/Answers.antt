@@ -1,7 +1,6 @@
 -- `encode::extendedquery::write_parse` meets its contract.
 use mathlib.Core.Path.{refl}
 use native.Mathlib.Omega.{arith}
-use borrow.Author.Rules.{rules}
 use borrow.Author.Tests.{le-leb}
 use Rattle.protocol.specs.Each.{bytes_of_each}
 use Rattle.protocol.specs.Encode.{items}

@@ -1,6 +1,5 @@
 -- `encode::response::command_complete` meets its contract.
 use mathlib.Core.Path.{refl}
-use borrow.Author.Rules.{rules}
 use Rattle.protocol.specs.Each.{able_each}
 use Rattle.protocol.specs.Fields.{able, atom_able}
 use Rattle.protocol.specs.Kinds as K

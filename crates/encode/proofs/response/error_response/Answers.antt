@@ -1,5 +1,4 @@
 -- `encode::response::error_response` meets its contract.
-use borrow.Author.Rules.{rules}
 use Rattle.protocol.specs.Kinds as K
 use Rattle.encode.specs.Given as G
 use Rattle.encode.proofs.Shapes.{as_kind_given}

@@ -1,7 +1,6 @@
 -- `encode::response::lone` meets its contract.
 use mathlib.Core.Path.{refl}
 use native.Mathlib.Omega.{arith}
-use borrow.Author.Rules.{rules}
 use Rattle.protocol.specs.Each.{able_each, bytes_of_each}
 use Rattle.protocol.specs.Kinds as K
 use Rattle.protocol.specs.WellFormed.{body_bytes, header, frame}

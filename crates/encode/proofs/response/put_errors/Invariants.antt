@@ -1,18 +1,12 @@
 -- The loop of `encode::response::put_errors`.
 use Prim.Native.Nat.{◌+◌, ◌*◌, ◌-◌, ◌≤◌}
 use mathlib.Core.Bool.{true}
-use mathlib.Core.Path.{◌≡◌, refl, ap, ◌∙◌, sym}
-use native.Mathlib.Omega.{arith}
-use borrow.Author.Rules.{rules}
-use lib.ListN.{length, get_or, drop, length-take, length-drop}
-use Rattle.protocol.specs.Encode.{error_fields_given, texts_given}
-use Rattle.protocol.specs.Kinds.{error_field}
+use mathlib.Core.Path.{◌≡◌}
+use lib.ListN.{length, drop}
+use Rattle.protocol.specs.Encode.{texts_given}
 use Rattle.writers.specs.Given.{is_some}
 use Rattle.writers.specs.Writing.{write}
-use Rattle.writers.proofs.Laws.{turn, ◌then◌}
-use Rattle.writers.proofs.ErrorLaws.{errors_many, errors_same, errors_bytes, errors_more, errors_none, errors_are}
-use Rattle.writers.proofs.TextLaws.{text_right, text_over}
-use Rattle.encode.proofs.Ended.{ended_field}
+use Rattle.writers.proofs.ErrorLaws.{errors_bytes}
 use Rattle.encode.proofs.response.put_errors.Given as goal
 
 abbrev pub invariant-loop-i : goal.invariant-loop-i

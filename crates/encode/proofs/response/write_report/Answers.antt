@@ -1,6 +1,5 @@
 -- `encode::response::write_report` meets its contract.
 use native.Mathlib.Omega.{arith}
-use borrow.Author.Rules.{rules}
 use Rattle.protocol.specs.Each.{bytes_of_each}
 use Rattle.protocol.specs.Encode.{error_fields_given}
 use Rattle.protocol.specs.WellFormed.{body_bytes}

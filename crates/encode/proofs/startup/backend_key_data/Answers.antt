@@ -1,7 +1,6 @@
 -- `encode::startup::backend_key_data` meets its contract.
 use mathlib.Core.Path.{refl}
 use native.Mathlib.Omega.{arith}
-use borrow.Author.Rules.{rules}
 use lib.ListN.{length}
 use mir.Syntax.{w32}
 use Rattle.protocol.specs.Kinds as K

@@ -1,17 +1,12 @@
 -- The loop of `encode::startup::put_parameters`.
 use Prim.Native.Nat.{◌+◌, ◌-◌, ◌≤◌}
 use mathlib.Core.Bool.{true}
-use mathlib.Core.Path.{◌≡◌, refl, ap, ◌∙◌, sym}
-use native.Mathlib.Omega.{arith}
-use borrow.Author.Rules.{rules}
-use lib.ListN.{length, get_or, drop, length-take, length-drop}
-use Rattle.protocol.specs.Encode.{texts_given, pairs_given}
-use Rattle.protocol.specs.Kinds.{pair}
+use mathlib.Core.Path.{◌≡◌}
+use lib.ListN.{length, drop}
+use Rattle.protocol.specs.Encode.{texts_given}
 use Rattle.writers.specs.Given.{is_some}
 use Rattle.writers.specs.Writing.{write}
-use Rattle.writers.proofs.Laws.{turn}
-use Rattle.writers.proofs.TextLaws.{text_right, text_over, texts_bytes, texts_more, texts_none, pairs_are}
-use Rattle.encode.proofs.Ended.{ended_field}
+use Rattle.writers.proofs.TextLaws.{texts_bytes}
 use Rattle.encode.proofs.startup.put_parameters.Given as goal
 
 abbrev pub invariant-loop-i : goal.invariant-loop-i

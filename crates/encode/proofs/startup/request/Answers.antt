@@ -1,7 +1,6 @@
 -- `encode::startup::request` meets its contract.
 use mathlib.Core.Path.{refl}
 use native.Mathlib.Omega.{arith}
-use borrow.Author.Rules.{rules}
 use Rattle.protocol.specs.Bytes.{be}
 use Rattle.protocol.specs.Each.{able_each, bytes_of_each}
 use Rattle.protocol.specs.Kinds as K

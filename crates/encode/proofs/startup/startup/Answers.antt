@@ -1,7 +1,6 @@
 -- `encode::startup::startup` meets its contract.
 use mathlib.Core.Bool.{◌&&◌}
 use native.Mathlib.Omega.{arith}
-use borrow.Author.Rules.{rules}
 use lib.ListN.{length}
 use Rattle.protocol.specs.Bytes.{no_zero}
 use Rattle.protocol.specs.Encode.{texts_given}

@@ -1,6 +1,5 @@
 -- `encode::startup::write_startup` meets its contract.
 use native.Mathlib.Omega.{arith}
-use borrow.Author.Rules.{rules}
 use Rattle.protocol.specs.Each.{bytes_of_each}
 use Rattle.protocol.specs.Encode.{pairs_given}
 use Rattle.protocol.specs.Kinds as K

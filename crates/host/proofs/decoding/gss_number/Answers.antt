@@ -1,5 +1,4 @@
 -- `host::decoding::gss_number` meets its contract: each answer has the number of its row.
-use borrow.Author.Rules.{rules}
 use Rattle.protocol.specs.Kinds.{gss_accept, gss_refuse}
 use Rattle.protocol.specs.Views.{view}
 use Rattle.host.proofs.decoding.gss_number.Goals as goal

@@ -1,6 +1,5 @@
 -- `host::decoding::laid_out` meets its contract: case by case of the answer.
 use Rattle.host_layout.specs.LaidOut.{laid_out}
-use borrow.Author.Rules.{rules}
 use Rattle.host.proofs.decoding.laid_out.Goals as goal
 
 pub returns-in-Refused : goal.returns-in-Refused

@@ -1,5 +1,4 @@
 -- `host::decoding::ssl_number` meets its contract: each answer has the number of its row.
-use borrow.Author.Rules.{rules}
 use Rattle.protocol.specs.Kinds.{ssl_accept, ssl_refuse}
 use Rattle.protocol.specs.Views.{view}
 use Rattle.host.proofs.decoding.ssl_number.Goals as goal

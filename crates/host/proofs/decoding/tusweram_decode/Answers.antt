@@ -1,7 +1,6 @@
 -- `host::decoding::tusweram_decode` meets its contract: what decode answers, laid out.
 use mathlib.Core.Path.{ap, ◌∙◌}
 use Rattle.host_layout.specs.LaidOut.{laid_out}
-use borrow.Author.Rules.{rules}
 use Rattle.host.proofs.decoding.tusweram_decode.Goals as goal
 
 pub returns : goal.returns

@@ -1,6 +1,5 @@
 -- `host::encoding::answer_number` meets its contract: case by case of the answer.
 use mathlib.Core.Path.{refl}
-use borrow.Author.Rules.{rules}
 use Rattle.host.proofs.encoding.answer_number.Goals as goal
 
 pub returns-in-Refused : goal.returns-in-Refused

@@ -1,10 +1,9 @@
 -- `host::encoding::listed` meets its contract: each arm is a row of the table.
-use mathlib.Core.List.{List}
 use mathlib.Core.Path.{refl}
 use mir.Syntax.{w8}
 use mir.ValLaws.{to_z-of_z}
 use Rattle.protocol.specs.Kinds.{find, the_table}
-use Rattle.host.specs.Asked.{Row, asked_in, list_rows}
+use Rattle.host.specs.Asked.{asked_in, list_rows}
 use Rattle.host.proofs.Choices.{arm, unknown}
 use borrow.Author.Rules.{rules}
 use Rattle.host.proofs.encoding.listed.Goals as goal

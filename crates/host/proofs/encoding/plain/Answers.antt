@@ -1,11 +1,10 @@
 -- `host::encoding::plain` meets its contract: each arm is a row of the table.
-use Prim.Native.Nat.{ℕ}
-use mathlib.Core.List.{List, ◌++◌}
+use mathlib.Core.List.{◌++◌}
 use mathlib.Core.Path.{refl}
 use mir.Syntax.{w32}
 use mir.ValLaws.{to_z-of_z}
 use Rattle.protocol.specs.Kinds.{find, the_table}
-use Rattle.host.specs.Asked.{Row, asked_in, field_rows, bare_rows}
+use Rattle.host.specs.Asked.{asked_in, field_rows, bare_rows}
 use Rattle.host.proofs.Choices.{arm, chosen, past}
 use borrow.Author.Rules.{rules}
 use Rattle.host.proofs.encoding.plain.Goals as goal

@@ -2,7 +2,6 @@
 use mir.Syntax.{w32}
 use mir.ValLaws.{to_z-of_z}
 use Rattle.host.proofs.Choices.{told}
-use borrow.Author.Rules.{rules}
 use Rattle.host.proofs.encoding.tusweram_encode.Goals as goal
 
 pub returns : goal.returns

@@ -1,5 +1,4 @@
 -- `host_layout::bits::bits` meets its contract: the bits of `pen`, made wider.
-use borrow.Author.Rules.{rules}
 use mir.Syntax.{w32}
 use Rattle.writers.proofs.Signs.{bits_of_lem}
 use Rattle.host_layout.proofs.bits.bits.Goals as goal

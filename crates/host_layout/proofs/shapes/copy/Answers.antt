@@ -2,7 +2,6 @@
 use mathlib.Core.Path.{refl}
 use mir.Syntax.{w8}
 use Rattle.host_layout.proofs.Signs.{widens, wide_bits_of}
-use borrow.Author.Rules.{rules}
 use Rattle.host_layout.proofs.shapes.copy.Goals as goal
 
 pub overflow_cast-format : goal.overflow_cast-format

@@ -5,7 +5,6 @@ use Rattle.protocol.specs.Kinds.{execute}
 use Rattle.protocol.specs.Views.{view}
 use Rattle.host_layout.specs.LaidOut.{numbers_of}
 use Rattle.host_layout.proofs.Signs.{passed}
-use borrow.Author.Rules.{rules}
 use Rattle.host_layout.proofs.shapes.execute.Goals as goal
 
 pub returns : goal.returns

@@ -2,7 +2,6 @@
 use mathlib.Core.Path.{refl}
 use mir.Syntax.{w32}
 use Rattle.host_layout.proofs.Signs.{passed}
-use borrow.Author.Rules.{rules}
 use Rattle.host_layout.proofs.shapes.key.Goals as goal
 
 pub returns : goal.returns

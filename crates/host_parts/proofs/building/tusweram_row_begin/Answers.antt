@@ -1,5 +1,4 @@
 -- `host_parts::building::tusweram_row_begin` meets its contract.
-use borrow.Author.Rules.{rules}
 use Rattle.host_parts.proofs.Renewed.{renews}
 use Rattle.host_parts.proofs.building.tusweram_row_begin.Goals as goal
 

@@ -1,6 +1,5 @@
 -- `host_parts::building::tusweram_row_finish` meets its contract: case by case of the answer.
 use mathlib.Core.Path.{refl}
-use borrow.Author.Rules.{rules}
 use Rattle.host_parts.proofs.building.tusweram_row_finish.Goals as goal
 
 pub returns-in-Done : goal.returns-in-Done

@@ -1,6 +1,5 @@
 -- `host_parts::elements::error_numbers` meets its contract: case by case of the answer.
 use Rattle.host_parts.specs.Reads.{error_field_out}
-use borrow.Author.Rules.{rules}
 use Rattle.host_parts.proofs.elements.error_numbers.Goals as goal
 
 pub returns-in-Is : goal.returns-in-Is

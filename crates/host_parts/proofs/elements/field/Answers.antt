@@ -2,7 +2,6 @@
 use mathlib.Core.Path.{refl}
 use mir.Syntax.{w16, w32}
 use Rattle.host_layout.proofs.Signs.{passed}
-use borrow.Author.Rules.{rules}
 use Rattle.host_parts.proofs.elements.field.Goals as goal
 
 pub returns : goal.returns

@@ -1,7 +1,6 @@
 -- `host_parts::elements::half` meets its contract: a narrow number's bits are those of the wider one.
 use mir.Syntax.{w16}
 use Rattle.host_layout.proofs.Signs.{widens, wide_bits_of}
-use borrow.Author.Rules.{rules}
 use Rattle.host_parts.proofs.elements.half.Goals as goal
 
 pub overflow_cast-x : goal.overflow_cast-x

@@ -1,6 +1,5 @@
 -- `host_parts::elements::pair_numbers` meets its contract: case by case of the answer.
 use Rattle.host_parts.specs.Reads.{pair_out}
-use borrow.Author.Rules.{rules}
 use Rattle.host_parts.proofs.elements.pair_numbers.Goals as goal
 
 pub returns-in-Is : goal.returns-in-Is

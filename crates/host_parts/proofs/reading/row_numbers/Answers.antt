@@ -1,7 +1,6 @@
 -- `host_parts::reading::row_numbers` meets its contract: case by case of the answer.
 use Rattle.protocol.specs.Kinds.{data_row}
 use Rattle.host_parts.specs.Reads.{row_out}
-use borrow.Author.Rules.{rules}
 use Rattle.host_parts.proofs.reading.row_numbers.Goals as goal
 
 pub returns-in-Is : goal.returns-in-Is

@@ -1,7 +1,6 @@
 -- `host_parts::reading::tusweram_data_row` meets its contract: what the reader answers, laid out.
 use mathlib.Core.Path.{ap, ◌∙◌}
 use Rattle.host_parts.specs.Reads.{row_out}
-use borrow.Author.Rules.{rules}
 use Rattle.host_parts.proofs.reading.tusweram_data_row.Goals as goal
 
 pub returns : goal.returns

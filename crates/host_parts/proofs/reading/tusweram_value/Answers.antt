@@ -1,7 +1,6 @@
 -- `host_parts::reading::tusweram_value` meets its contract: what the reader answers, laid out.
 use mathlib.Core.Path.{ap, ◌∙◌}
 use Rattle.host_parts.specs.Reads.{value_out}
-use borrow.Author.Rules.{rules}
 use Rattle.host_parts.proofs.reading.tusweram_value.Goals as goal
 
 pub returns : goal.returns

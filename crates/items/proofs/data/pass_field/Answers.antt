@@ -1,6 +1,5 @@
 -- `items::data::pass_field` meets its contract: past the field, or its fault.
-use mathlib.Core.Path.{◌≡◌, refl, ap, sym, ◌∙◌}
-use borrow.Author.Rules.{rules}
+use mathlib.Core.Path.{ap, sym, ◌∙◌}
 use Rattle.protocol.specs.Kinds.{row_field, row_field_of}
 use Rattle.items.specs.ItemRead.{field_read}
 use Rattle.items.proofs.Passing.{passed_by}

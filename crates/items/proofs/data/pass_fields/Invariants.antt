@@ -1,11 +1,7 @@
 -- The loop of `items::data::pass_fields`.
-use mathlib.Core.Path.{◌≡◌, refl, ap, sym, ◌∙◌}
-use borrow.Author.Rules.{rules}
-use Rattle.protocol.specs.declared.Rules.{Rules}
+use mathlib.Core.Path.{◌≡◌}
 use Rattle.protocol.specs.Kinds.{row_field}
 use Rattle.protocol.specs.Reading.{pass_items}
-use Rattle.protocol.proofs.Counts.{pass_none, pass_refused, pass_turn}
-use Rattle.codec.specs.CursorRead.{passed_read}
 use Rattle.items.proofs.data.pass_fields.Given as goal
 
 abbrev pub invariant-loop-left : goal.invariant-loop-left

@@ -1,7 +1,6 @@
 -- `items::ended::items` meets its contract. The invariant: the list from here on, after the items passed, is the list from the start.
-use Prim.Native.Nat.{ℕ, suc, ◌+◌, ◌-◌, ◌≤◌, ◌<◌}
+use Prim.Native.Nat.{ℕ, ◌<◌}
 use mathlib.Core.List.{List}
-use mathlib.Core.Logic.{⊎_elim}
 use mathlib.Core.Path.{◌≡◌, refl, ap, sym, ◌∙◌}
 use native.Mathlib.Numerals.{add-one}
 use native.Mathlib.Omega.{arith}
@@ -10,7 +9,7 @@ use lib.ListN.{length}
 use Rattle.protocol.specs.declared.Rules.{Rules}
 use Rattle.protocol.specs.Reading.{got, read_number, pass_items, ended_from, read_ended}
 use Rattle.protocol.proofs.Ended.{Grows, error_grows, pair_grows, passed_grows, ended_cut, ended_zero, ended_bad, ended_more}
-use Rattle.protocol.proofs.Numbers.{Whole, whole, not_whole}
+use Rattle.protocol.proofs.Numbers.{whole, not_whole}
 use Rattle.codec.specs.CursorRead.{byte_read, passed_read}
 use Rattle.items.specs.declared.ended.Item.TheVariants as I
 use Rattle.items.specs.declared.ended.Item.{Item}

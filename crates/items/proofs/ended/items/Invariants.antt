@@ -1,20 +1,9 @@
 -- The loop of `items::ended::items`.
-use Prim.Native.Nat.{ℕ, suc, ◌+◌, ◌-◌, ◌≤◌, ◌<◌}
-use mathlib.Core.List.{List}
-use mathlib.Core.Logic.{⊎_elim}
-use mathlib.Core.Path.{◌≡◌, refl, ap, sym, ◌∙◌}
-use native.Mathlib.Numerals.{add-one}
-use native.Mathlib.Omega.{arith}
-use borrow.Author.Rules.{rules}
+use Prim.Native.Nat.{◌+◌, ◌-◌, ◌≤◌}
+use mathlib.Core.Path.{◌≡◌}
 use lib.ListN.{length}
-use Rattle.protocol.specs.declared.Rules.{Rules}
-use Rattle.protocol.specs.Reading.{got, read_number, pass_items, ended_from, read_ended}
-use Rattle.protocol.proofs.Ended.{Grows, error_grows, pair_grows, passed_grows, ended_cut, ended_zero, ended_bad, ended_more}
-use Rattle.protocol.proofs.Numbers.{Whole, whole, not_whole}
-use Rattle.codec.specs.CursorRead.{byte_read, passed_read}
-use Rattle.items.specs.declared.ended.Item.TheVariants as I
-use Rattle.items.specs.declared.ended.Item.{Item}
-use Rattle.items.specs.ItemRead.{item_of, outcome_read}
+use Rattle.protocol.specs.Reading.{ended_from}
+use Rattle.items.specs.ItemRead.{item_of}
 use Rattle.items.proofs.ended.items.Given as goal
 
 abbrev pub invariant-loop-first : goal.invariant-loop-first

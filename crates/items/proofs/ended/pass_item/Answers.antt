@@ -1,6 +1,5 @@
 -- `items::ended::pass_item` meets its contract: item by item.
 use mathlib.Core.Path.{refl, ◌∙◌}
-use borrow.Author.Rules.{rules}
 use Rattle.items.proofs.ended.pass_item.Goals as goal
 
 pub returns-in-ErrorField : goal.returns-in-ErrorField

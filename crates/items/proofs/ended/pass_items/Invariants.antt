@@ -1,10 +1,6 @@
 -- The loop of `items::ended::pass_items`.
-use mathlib.Core.Path.{◌≡◌, refl, ap, sym, ◌∙◌}
-use borrow.Author.Rules.{rules}
-use Rattle.protocol.specs.declared.Rules.{Rules}
+use mathlib.Core.Path.{◌≡◌}
 use Rattle.protocol.specs.Reading.{pass_items}
-use Rattle.protocol.proofs.Counts.{pass_none, pass_refused, pass_turn}
-use Rattle.codec.specs.CursorRead.{passed_read}
 use Rattle.items.specs.ItemRead.{item_of}
 use Rattle.items.proofs.ended.pass_items.Given as goal
 

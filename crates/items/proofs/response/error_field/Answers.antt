@@ -1,6 +1,5 @@
 -- `items::response::error_field` meets its contract: each step answers what the item's reading finds there.
 use mathlib.Core.Path.{refl}
-use borrow.Author.Rules.{rules}
 use Rattle.items.proofs.response.error_field.Goals as goal
 
 pub returns-in_default : goal.returns-in_default

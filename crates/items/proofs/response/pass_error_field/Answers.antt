@@ -1,6 +1,5 @@
 -- `items::response::pass_error_field` meets its contract: past the field that was read.
 use mathlib.Core.Path.{ap, sym, ◌∙◌}
-use borrow.Author.Rules.{rules}
 use Rattle.protocol.specs.Kinds.{error_field}
 use Rattle.items.specs.ItemRead.{error_read}
 use Rattle.items.proofs.Passing.{passed_alone}

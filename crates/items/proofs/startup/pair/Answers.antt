@@ -1,6 +1,5 @@
 -- `items::startup::pair` meets its contract: each step answers what the item's reading finds there.
 use mathlib.Core.Path.{refl}
-use borrow.Author.Rules.{rules}
 use Rattle.items.proofs.startup.pair.Goals as goal
 
 pub returns-in_default : goal.returns-in_default

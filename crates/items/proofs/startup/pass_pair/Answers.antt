@@ -1,6 +1,5 @@
 -- `items::startup::pass_pair` meets its contract: past the pair that was read.
 use mathlib.Core.Path.{ap, sym, ◌∙◌}
-use borrow.Author.Rules.{rules}
 use Rattle.protocol.specs.Kinds.{pair}
 use Rattle.items.specs.ItemRead.{pair_read}
 use Rattle.items.proofs.Passing.{passed_alone}

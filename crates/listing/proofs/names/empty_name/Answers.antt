@@ -1,5 +1,5 @@
 -- `listing::names::empty_name` meets its contract: an arm's line has its kind's name, and the last arm has the one kind that is left.
-use mathlib.Core.Path.{◌≡◌, refl}
+use mathlib.Core.Path.{refl}
 use borrow.Author.Rules.{rules}
 use Rattle.protocol.specs.Kinds.{find, the_table}
 use Rattle.protocol.specs.Views.{view, numbered}

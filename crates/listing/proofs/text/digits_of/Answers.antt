@@ -3,8 +3,8 @@ use Prim.Native.Nat.{◌+◌, ◌-◌, ◌/◌, ◌^◌, ◌<◌, ◌≤◌}
 use mathlib.Core.Path.{◌≡◌, refl, sym, ◌∙◌}
 use native.Mathlib.Omega.{arith}
 use borrow.Author.Rules.{rules}
-use lib.ListN.{length, drop}
-use Rattle.listing.specs.Text.{digits_onto, decimal}
+use lib.ListN.{drop}
+use Rattle.listing.specs.Text.{decimal}
 use Rattle.listing.proofs.Digits.{fewer, digits_more, digits_end, stored}
 use Rattle.listing.proofs.text.digits_of.Goals as goal
 

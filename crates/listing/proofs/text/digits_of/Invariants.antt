@@ -1,11 +1,8 @@
 -- The loop of `listing::text::digits_of`.
-use Prim.Native.Nat.{◌+◌, ◌-◌, ◌/◌, ◌^◌, ◌<◌, ◌≤◌}
-use mathlib.Core.Path.{◌≡◌, refl, sym, ◌∙◌}
-use native.Mathlib.Omega.{arith}
-use borrow.Author.Rules.{rules}
+use Prim.Native.Nat.{◌+◌, ◌-◌, ◌^◌, ◌<◌}
+use mathlib.Core.Path.{◌≡◌}
 use lib.ListN.{length, drop}
 use Rattle.listing.specs.Text.{digits_onto, decimal}
-use Rattle.listing.proofs.Digits.{fewer, digits_more, digits_end, stored}
 use Rattle.listing.proofs.text.digits_of.Given as goal
 
 abbrev pub invariant-loop-rest : goal.invariant-loop-rest

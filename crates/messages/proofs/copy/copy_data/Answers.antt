@@ -1,13 +1,7 @@
 -- `messages::copy::copy_data` meets its contract: at each point, what is left to read is what there was at first.
-use Prim.Native.Nat.{ℕ}
-use mathlib.Core.List.{List, [], ◌∷◌}
-use mathlib.Core.Path.{ap, sym, ◌∙◌}
-use borrow.Author.Rules.{rules}
+use mathlib.Core.Path.{sym, ◌∙◌}
 use lib.ListN.{take}
-use Rattle.protocol.specs.declared.Message.{Message}
 use Rattle.protocol.specs.Decode.{decode_as}
-use Rattle.protocol.specs.Each.{Each}
-use Rattle.protocol.specs.Fields.{Field, Slot}
 use Rattle.protocol.specs.Kinds.{typed, copy_data}
 use Rattle.envelope.proofs.Points as P
 use Rattle.envelope.proofs.Points.{on, done, begin, none, ends}

@@ -1,6 +1,5 @@
 -- `messages::copy::copy_done` meets its contract: no field, by its own row.
 use mathlib.Core.Path.{◌∙◌}
-use borrow.Author.Rules.{rules}
 use Rattle.protocol.specs.Kinds.{typed, copy_done}
 use Rattle.envelope.proofs.Points.{made_as}
 use Rattle.messages.proofs.copy.copy_done.Goals as goal

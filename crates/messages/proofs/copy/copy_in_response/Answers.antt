@@ -1,6 +1,5 @@
 -- `messages::copy::copy_in_response` meets its contract: the body that its kinds share, by its own row.
 use mathlib.Core.Path.{◌∙◌}
-use borrow.Author.Rules.{rules}
 use Rattle.protocol.specs.Kinds.{typed, copy_in_response, copy_out_response, copy_both_response}
 use Rattle.envelope.proofs.Points.{made_as}
 use Rattle.messages.proofs.copy.copy_in_response.Goals as goal

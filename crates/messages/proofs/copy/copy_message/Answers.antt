@@ -1,6 +1,5 @@
 -- `messages::copy::copy_message` meets its contract: case by case of the kind.
 use mathlib.Core.Path.{refl}
-use borrow.Author.Rules.{rules}
 use mir.Syntax.{w8}
 use Rattle.protocol.proofs.Basics.{back}
 use Rattle.protocol.specs.Kinds.{copy_in_response, copy_out_response, copy_both_response}

@@ -1,14 +1,9 @@
 -- `messages::copy::copy_response` meets its contract: at each point, what is left to read is what there was at first.
-use Prim.Native.Nat.{ℕ}
-use mathlib.Core.List.{List, [], ◌∷◌}
+use mathlib.Core.List.{[], ◌∷◌}
 use mathlib.Core.Path.{ap, sym, ◌∙◌}
-use borrow.Author.Rules.{rules}
 use lib.ListN.{take}
 use mir.Syntax.{w8}
-use Rattle.protocol.specs.declared.Message.{Message}
 use Rattle.protocol.specs.Bytes.{signed_of}
-use Rattle.protocol.specs.Each.{Each}
-use Rattle.protocol.specs.Fields.{Field, Slot}
 use Rattle.protocol.specs.Fields.{signed_count}
 use Rattle.protocol.specs.Kinds.{typed, formats}
 use Rattle.protocol.proofs.OneByOne.{signed_got, signed_bad}

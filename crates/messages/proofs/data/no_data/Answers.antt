@@ -1,6 +1,5 @@
 -- `messages::data::no_data` meets its contract: no field, by its own row.
 use mathlib.Core.Path.{◌∙◌}
-use borrow.Author.Rules.{rules}
 use Rattle.protocol.specs.Kinds.{typed, no_data}
 use Rattle.envelope.proofs.Points.{made_as}
 use Rattle.messages.proofs.data.no_data.Goals as goal

@@ -1,6 +1,5 @@
 -- `messages::extendedquery::aim_message` meets its contract: case by case of the kind.
 use mathlib.Core.Path.{refl}
-use borrow.Author.Rules.{rules}
 use Rattle.protocol.specs.Kinds.{close, describe}
 use Rattle.messages.proofs.extendedquery.aim_message.Goals as goal
 

@@ -1,6 +1,5 @@
 -- `messages::extendedquery::bind_complete` meets its contract: no field, by its own row.
 use mathlib.Core.Path.{◌∙◌}
-use borrow.Author.Rules.{rules}
 use Rattle.protocol.specs.Kinds.{typed, bind_complete}
 use Rattle.envelope.proofs.Points.{made_as}
 use Rattle.messages.proofs.extendedquery.bind_complete.Goals as goal

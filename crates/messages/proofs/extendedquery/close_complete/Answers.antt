@@ -1,6 +1,5 @@
 -- `messages::extendedquery::close_complete` meets its contract: no field, by its own row.
 use mathlib.Core.Path.{◌∙◌}
-use borrow.Author.Rules.{rules}
 use Rattle.protocol.specs.Kinds.{typed, close_complete}
 use Rattle.envelope.proofs.Points.{made_as}
 use Rattle.messages.proofs.extendedquery.close_complete.Goals as goal

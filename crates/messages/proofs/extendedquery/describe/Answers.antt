@@ -1,6 +1,5 @@
 -- `messages::extendedquery::describe` meets its contract: the body that its kinds share, by its own row.
 use mathlib.Core.Path.{◌∙◌}
-use borrow.Author.Rules.{rules}
 use Rattle.protocol.specs.Kinds.{typed, close, describe}
 use Rattle.envelope.proofs.Points.{made_as}
 use Rattle.messages.proofs.extendedquery.describe.Goals as goal

@@ -1,13 +1,8 @@
 -- `messages::extendedquery::parse` meets its contract: at each point, what is left to read is what there was at first.
-use Prim.Native.Nat.{ℕ}
-use mathlib.Core.List.{List, [], ◌∷◌}
+use mathlib.Core.List.{[], ◌∷◌}
 use mathlib.Core.Path.{ap, sym, ◌∙◌}
-use borrow.Author.Rules.{rules}
 use lib.ListN.{take}
-use Rattle.protocol.specs.declared.Message.{Message}
 use Rattle.protocol.specs.Decode.{decode_as}
-use Rattle.protocol.specs.Each.{Each}
-use Rattle.protocol.specs.Fields.{Field, Slot}
 use Rattle.protocol.specs.Fields.{unsigned_count}
 use Rattle.protocol.specs.Kinds.{typed, oids, string, parse}
 use Rattle.protocol.specs.Records as R

@@ -1,6 +1,5 @@
 -- `messages::extendedquery::portal_suspended` meets its contract: no field, by its own row.
 use mathlib.Core.Path.{◌∙◌}
-use borrow.Author.Rules.{rules}
 use Rattle.protocol.specs.Kinds.{typed, portal_suspended}
 use Rattle.envelope.proofs.Points.{made_as}
 use Rattle.messages.proofs.extendedquery.portal_suspended.Goals as goal

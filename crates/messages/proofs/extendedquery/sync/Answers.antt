@@ -1,6 +1,5 @@
 -- `messages::extendedquery::sync` meets its contract: no field, by its own row.
 use mathlib.Core.Path.{◌∙◌}
-use borrow.Author.Rules.{rules}
 use Rattle.protocol.specs.Kinds.{typed, sync}
 use Rattle.envelope.proofs.Points.{made_as}
 use Rattle.messages.proofs.extendedquery.sync.Goals as goal

@@ -1,6 +1,5 @@
 -- `messages::response::command_complete` meets its contract: at each point, what is left to read is what there was at first.
 use mathlib.Core.Path.{ap, sym, ◌∙◌}
-use borrow.Author.Rules.{rules}
 use Rattle.protocol.specs.Kinds.{typed, command_complete}
 use Rattle.codec.specs.CursorRead.{text_read}
 use Rattle.envelope.proofs.Points.{on, off, done, begin, none, ends}

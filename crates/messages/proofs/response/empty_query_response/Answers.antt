@@ -1,6 +1,5 @@
 -- `messages::response::empty_query_response` meets its contract: no field, by its own row.
 use mathlib.Core.Path.{◌∙◌}
-use borrow.Author.Rules.{rules}
 use Rattle.protocol.specs.Kinds.{typed, empty_query_response}
 use Rattle.envelope.proofs.Points.{made_as}
 use Rattle.messages.proofs.response.empty_query_response.Goals as goal

@@ -1,6 +1,5 @@
 -- `messages::response::error_response` meets its contract: at each point, what is left to read is what there was at first.
 use mathlib.Core.Path.{ap, sym, ◌∙◌}
-use borrow.Author.Rules.{rules}
 use Rattle.protocol.specs.Kinds.{typed, error_response}
 use Rattle.codec.specs.CursorRead.{listed_read}
 use Rattle.envelope.specs.Steps.{refusal_of}

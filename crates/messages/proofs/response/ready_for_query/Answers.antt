@@ -1,14 +1,8 @@
 -- `messages::response::ready_for_query` meets its contract: at each point, what is left to read is what there was at first.
-use Prim.Native.Nat.{ℕ}
-use mathlib.Core.List.{List, [], ◌∷◌}
+use mathlib.Core.List.{[]}
 use mathlib.Core.Path.{ap, sym, ◌∙◌}
-use borrow.Author.Rules.{rules}
-use borrow.Author.Tests.{not-true, not-false}
 use lib.ListN.{take}
-use Rattle.protocol.specs.declared.Message.{Message}
 use Rattle.protocol.specs.Decode.{decode_as}
-use Rattle.protocol.specs.Each.{Each}
-use Rattle.protocol.specs.Fields.{Field, Slot}
 use Rattle.protocol.specs.Kinds.{typed, statuses, ready_for_query}
 use Rattle.protocol.specs.Records as R
 use Rattle.codec.specs.CursorRead.{byte_read}

@@ -1,7 +1,6 @@
 -- `messages::startup::request` meets its contract: the envelope, and then nothing.
 use mathlib.Core.List.{[]}
 use mathlib.Core.Path.{sym, ◌∙◌}
-use borrow.Author.Rules.{rules}
 use Rattle.protocol.specs.Kinds.{untyped}
 use Rattle.envelope.proofs.Points.{done, begin_made, none_made, ends}
 use Rattle.messages.proofs.startup.request.Goals as goal

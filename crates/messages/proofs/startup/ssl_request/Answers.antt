@@ -1,6 +1,5 @@
 -- `messages::startup::ssl_request` meets its contract: no field, by its own row.
 use mathlib.Core.Path.{◌∙◌}
-use borrow.Author.Rules.{rules}
 use Rattle.protocol.specs.Kinds.{untyped, ssl_request}
 use Rattle.envelope.proofs.Points.{made_as}
 use Rattle.messages.proofs.startup.ssl_request.Goals as goal

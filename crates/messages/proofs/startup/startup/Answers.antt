@@ -1,6 +1,5 @@
 -- `messages::startup::startup` meets its contract: at each point, what is left to read is what there was at first.
 use mathlib.Core.Path.{ap, sym, ◌∙◌}
-use borrow.Author.Rules.{rules}
 use Rattle.protocol.specs.Kinds.{untyped, startup}
 use Rattle.codec.specs.CursorRead.{listed_read}
 use Rattle.envelope.specs.Steps.{refusal_of}

@@ -1,6 +1,5 @@
 -- `messages::terminate::terminate` meets its contract: no field, by its own row.
 use mathlib.Core.Path.{◌∙◌}
-use borrow.Author.Rules.{rules}
 use Rattle.protocol.specs.Kinds.{typed, terminate}
 use Rattle.envelope.proofs.Points.{made_as}
 use Rattle.messages.proofs.terminate.terminate.Goals as goal

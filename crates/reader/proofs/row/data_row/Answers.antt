@@ -1,6 +1,5 @@
 -- `reader::row::data_row` meets its contract: the answer first, then the entries of a row.
 use mathlib.Core.Path.{sym, ◌∙◌}
-use borrow.Author.Rules.{rules}
 use lib.ListN.{length}
 use lib.Seq.{length-take-le}
 use Rattle.reader.proofs.RowRoom.{IsRow, is_row, kept}

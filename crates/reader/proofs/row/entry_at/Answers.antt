@@ -1,6 +1,5 @@
 -- `reader::row::entry_at` meets its contract: each case of a value.
 use mathlib.Core.Path.{refl}
-use borrow.Author.Rules.{rules}
 use mir.Syntax.{w32}
 use Rattle.protocol.proofs.Basics.{back}
 use Rattle.reader.specs.Row.{entry_of}

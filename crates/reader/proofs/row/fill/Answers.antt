@@ -1,16 +1,12 @@
 -- `reader::row::fill` meets its contract: each turn stores one entry, and what is left to store stays the same.
-use Prim.Native.Nat.{ℕ, ◌-◌, ◌≤◌}
-use mathlib.Core.Path.{◌≡◌, sym, ◌∙◌}
+use Prim.Native.Nat.{◌-◌}
+use mathlib.Core.Path.{sym, ◌∙◌}
 use native.Mathlib.Omega.{arith}
 use borrow.Author.Rules.{rules}
-use lib.IntN.{ℤ}
-use lib.ListN.{length}
-use lib.Seq.{sets}
 use mir.Syntax.{w32}
 use Rattle.protocol.specs.Reading.{read_value}
 use Rattle.protocol.proofs.Basics.{back}
-use Rattle.reader.specs.Row.{Place}
-use Rattle.reader.proofs.Places.{length_fits, left, begun, turn, stopped, ended, laid}
+use Rattle.reader.proofs.Places.{length_fits, begun, turn, stopped, ended, laid}
 use Rattle.reader.proofs.row.fill.Goals as goal
 use Rattle.reader.proofs.row.fill.Invariants.{start, len}
 

@@ -1,16 +1,11 @@
 -- The loop of `reader::row::fill`.
 use Prim.Native.Nat.{ℕ, ◌-◌, ◌≤◌}
-use mathlib.Core.Path.{◌≡◌, sym, ◌∙◌}
-use native.Mathlib.Omega.{arith}
-use borrow.Author.Rules.{rules}
+use mathlib.Core.Path.{◌≡◌}
 use lib.IntN.{ℤ}
 use lib.ListN.{length}
 use lib.Seq.{sets}
-use mir.Syntax.{w32}
-use Rattle.protocol.specs.Reading.{read_value}
-use Rattle.protocol.proofs.Basics.{back}
 use Rattle.reader.specs.Row.{Place}
-use Rattle.reader.proofs.Places.{length_fits, left, begun, turn, stopped, ended, laid}
+use Rattle.reader.proofs.Places.{left}
 use Rattle.reader.proofs.row.fill.Given as goal
 
 abbrev pub start : Place → ℕ

@@ -1,6 +1,5 @@
 -- `reader::row::row_in` meets its contract: a row for which there is room.
 use mathlib.Core.Logic.{inl, inr}
-use borrow.Author.Rules.{rules}
 use Rattle.reader.specs.Row.{row_fits}
 use Rattle.reader.proofs.RowRoom.{row_in_lem, refused, too_few, enough}
 use Rattle.reader.proofs.row.row_in.Goals as goal

@@ -1,6 +1,5 @@
 -- `reader::row::row_of` meets its contract: what decoding answers, of a row.
 use mathlib.Core.Path.{refl, ◌∙◌}
-use borrow.Author.Rules.{rules}
 use Rattle.reader.specs.Row.{row_by}
 use Rattle.reader.proofs.row.row_of.Goals as goal
 

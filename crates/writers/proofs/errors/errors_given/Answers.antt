@@ -1,6 +1,5 @@
 -- `writers::errors::errors_given` meets its contract.
 use mathlib.Core.Path.{◌∙◌, sym}
-use borrow.Author.Rules.{rules}
 use Rattle.writers.proofs.ErrorLaws.{errors_differ, errors_same}
 use Rattle.writers.proofs.errors.errors_given.Goals as goal
 

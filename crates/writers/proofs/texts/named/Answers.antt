@@ -1,11 +1,7 @@
 -- `writers::texts::named` meets its contract.
-use Prim.Native.Nat.{◌-◌, ◌≤◌}
-use mathlib.Core.Path.{◌≡◌, refl, ◌∙◌, sym}
+use mathlib.Core.Path.{refl, ◌∙◌, sym}
 use native.Mathlib.Omega.{arith}
-use borrow.Author.Rules.{rules}
 use borrow.Author.Tests.{eq-eqb, ne_eqb}
-use lib.ListN.{length, drop}
-use Rattle.writers.specs.Given.{named}
 use Rattle.writers.proofs.TextLaws.{named_more, named_end}
 use Rattle.writers.proofs.texts.named.Goals as goal
 

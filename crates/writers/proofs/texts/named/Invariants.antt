@@ -1,12 +1,8 @@
 -- The loop of `writers::texts::named`.
 use Prim.Native.Nat.{◌-◌, ◌≤◌}
-use mathlib.Core.Path.{◌≡◌, refl, ◌∙◌, sym}
-use native.Mathlib.Omega.{arith}
-use borrow.Author.Rules.{rules}
-use borrow.Author.Tests.{eq-eqb, ne_eqb}
+use mathlib.Core.Path.{◌≡◌}
 use lib.ListN.{length, drop}
 use Rattle.writers.specs.Given.{named}
-use Rattle.writers.proofs.TextLaws.{named_more, named_end}
 use Rattle.writers.proofs.texts.named.Given as goal
 
 abbrev pub invariant-loop-i : goal.invariant-loop-i

@@ -1,15 +1,9 @@
 -- The loop of `writers::values::values_given`.
-use Prim.Native.Nat.{◌+◌, ◌-◌, ◌≤◌}
-use mathlib.Core.Bool.{◌&&◌}
-use mathlib.Core.Path.{◌≡◌, refl, ◌∙◌, sym}
-use native.Mathlib.Omega.{arith}
-use borrow.Author.Rules.{rules}
-use borrow.Author.Tests.{le-leb, lt-leb}
-use lib.Dec.{leb}
+use Prim.Native.Nat.{◌-◌, ◌≤◌}
+use mathlib.Core.Path.{◌≡◌}
 use lib.ListN.{length, drop}
 use Rattle.protocol.specs.Encode.{values_given}
 use Rattle.writers.specs.Given.{is_some}
-use Rattle.writers.proofs.ValueLaws.{value_below, value_next, value_end}
 use Rattle.writers.proofs.values.values_given.Given as goal
 
 abbrev pub invariant-loop-i : goal.invariant-loop-i
