@@ -1,7 +1,7 @@
 -- `host::decoding::query_answer` meets its contract: kind by kind; the one that the last arm is left with is numbered 16 and has no field.
 use Prim.Native.Nat.{ℕ, ◌≤◌}
 use mathlib.Core.Bool.{Bool, cond, ◌||◌}
-use mathlib.Core.List.{◌∷◌}
+use mathlib.Core.List.{[], ◌∷◌}
 use mathlib.Core.Path.{◌≡◌}
 use native.Mathlib.Omega.{arith}
 use borrow.Author.Rules.{rules}

@@ -1,7 +1,7 @@
 -- `host::decoding::record` meets its contract: kind by kind, the numbers of its row and of its fields; a query's answers are `query_answer`'s.
 use Prim.Native.Nat.{ℕ, ◌≤◌}
 use mathlib.Core.Bool.{Bool, ◌&&◌}
-use mathlib.Core.List.{◌∷◌}
+use mathlib.Core.List.{[], ◌∷◌}
 use mathlib.Core.Path.{◌≡◌, refl}
 use mir.Syntax.{w8, w32}
 use borrow.Author.Rules.{rules}
