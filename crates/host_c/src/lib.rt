@@ -1,0 +1,6 @@
+// The archive that a host in C or Rust links: each function of crate host under its name in C, with its contract. No call asks for anything of its
+// input.
+#![tactic(auto)]
+
+pub mod decoding;
+pub mod encoding;
