@@ -1,5 +1,5 @@
-//! Links the library's two archives. `TUSWERAM_LIB` names a folder that has `libhost.a` and `libhost_parts.a`; without it, `rt staticlib` proves and
-//! builds them.
+//! Links the library's two archives. `TUSWERAM_LIB` names a folder that has `libhost.a` and `libhost_parts.a`; without it, `bindings/archives` proves
+//! and builds them.
 
 use std::env;
 use std::path::{Path, PathBuf};
@@ -33,20 +33,26 @@ fn built() -> PathBuf {
     let arch = env::var("CARGO_CFG_TARGET_ARCH").unwrap_or_default();
     assert!(
         arch == "x86_64",
-        "rt staticlib makes archives for x86-64, and this build is for {arch}: give --target x86_64-unknown-linux-gnu"
+        "bindings/archives makes archives for x86-64, and this build is for {arch}: give --target x86_64-unknown-linux-gnu"
     );
     let here = env::var_os("CARGO_MANIFEST_DIR").expect("cargo says where the crate is");
     let root = Path::new(&here).join("../..");
-    println!("cargo:rerun-if-changed={}", root.join("crates").display());
-    for name in ARCHIVES {
-        match Command::new("rt").args(["staticlib", name]).current_dir(&root).status() {
-            Ok(status) => assert!(status.success(), "rt staticlib {name} failed: {status}"),
-            Err(e) => {
-                panic!(
-                    "the Rattle kit's command rt cannot be run ({e}): put it on PATH, or name a folder with both archives in TUSWERAM_LIB"
-                )
+    println!("cargo:rerun-if-changed={}", root.join("crates.txt").display());
+    for folder in std::fs::read_dir(root.join("crates")).expect("the library's crates are there").flatten() {
+        for part in ["src", "specs", "proofs"].map(|part| folder.path().join(part)) {
+            if part.is_dir() {
+                println!("cargo:rerun-if-changed={}", part.display());
             }
         }
+    }
+    let archives = root.join("bindings/archives");
+    match Command::new(&archives).status() {
+        Ok(status) => assert!(
+            status.success(),
+            "{} failed ({status}): it wants the Rattle kit's command rt on PATH; or name a folder with both archives in TUSWERAM_LIB",
+            archives.display()
+        ),
+        Err(e) => panic!("{} cannot be run: {e}", archives.display()),
     }
     root.join("target/staticlib")
 }
