@@ -1,6 +1,6 @@
 /* Tusweram for a C host: messages of the PostgreSQL wire protocol, version 3, read and written in lent buffers.
  *
- * Link the two archives that `rt staticlib host` and `rt staticlib host_parts` make (target/staticlib/libhost.a and libhost_parts.a, for x86-64). They
+ * Link the two archives that `bindings/archives` makes (target/staticlib/libhost.a and libhost_parts.a, for x86-64). They
  * need nothing else, keep nothing between calls, allocate nothing, and may be called from any thread.
  *
  * A slice is two arguments: a pointer, and how many elements it has. NULL is allowed where the length is 0. What a host must see to: each
