@@ -4,7 +4,7 @@ use crate::text::write_answer;
 use crate::{SPARE, boundary, case, direct, fields, long};
 use protocol::data::FieldDescription;
 use protocol::{Encoded, Span};
-use test_cases::write;
+use test_cases::{Output, write};
 
 // A field with this name in the run, and with numbers whose bytes differ.
 fn field(start: usize, len: usize) -> FieldDescription {
@@ -150,16 +150,16 @@ fn encode_in(by_boundary: bool, case: Case, out: &mut [u8]) -> Encoded {
 }
 
 // The encoder's answer, and its output after the call. The boundary's, in an output of its own, are the same.
-fn answer_in(case: Case, out: &mut [u8], other: &mut [u8]) {
+fn answer_in(to: &mut Output, case: Case, out: &mut [u8], other: &mut [u8]) {
     let encoded = encode_in(false, case, out);
     let again = encode_in(true, case, other);
-    write_answer(encoded, out);
+    write_answer(to, encoded, out);
     if !boundary::is_same(encoded, out, again, other) {
-        write(b" WRONG at the boundary");
+        write(to, b" WRONG at the boundary");
     }
 }
 
-pub fn answer(case: Case) {
+pub fn answer(to: &mut Output, case: Case) {
     let room = case.room;
     if case.section == case::COMMENT {
         return;
@@ -168,9 +168,9 @@ pub fn answer(case: Case) {
         if case::is_whole(case) {
             let mut out = long::full(SPARE);
             let mut other = long::full(SPARE);
-            answer_in(case, &mut out[0..room], &mut other[0..room]);
+            answer_in(to, case, &mut out[0..room], &mut other[0..room]);
             return;
         }
     }
-    write(b" = malformed case");
+    write(to, b" = malformed case");
 }
