@@ -42,13 +42,15 @@ fn first_formats(formats: &[i16], count: usize) -> &[i16] {
     &formats[0..count]
 }
 
-fn row_description(case: Case, run: &[u8], out: &mut [u8]) -> Encoded {
+fn row_description(by_boundary: bool, case: Case, run: &[u8], out: &mut [u8]) -> Encoded {
     let first = field(case.start, case.len);
-    if case.size_count == 4 {
-        return fields::description_of_one([first], run, out);
-    }
     let second = field(case.next_start, case.next_len);
-    fields::description_of_two([first, second], run, out)
+    match (by_boundary, case.size_count == 4) {
+        (false, true) => fields::description_of_one([first], run, out),
+        (false, false) => fields::description_of_two([first, second], run, out),
+        (true, true) => boundary::row_description(&[first], run, out),
+        (true, false) => boundary::row_description(&[first, second], run, out),
+    }
 }
 
 fn plain(
@@ -90,8 +92,7 @@ fn listed(
     )
 }
 
-// The case's call, with as many bytes and numbers of the arrays as it says: of its encoder, or of the boundary's function. The boundary takes a
-// row's fields as a slice, which would be walked by hand here, so a RowDescription goes to its encoder both times.
+// The case's call, with as many bytes and numbers of the arrays as it says: of its encoder, or of the boundary's function.
 pub fn call<'a>(
     by_boundary: bool,
     case: Case,
@@ -106,7 +107,7 @@ pub fn call<'a>(
     let one = decode::part(bytes, 0, case.one_len);
     let two = decode::part(bytes, 64, case.two_len);
     if kind == case::ROW_DESCRIPTION {
-        return row_description(case, one, out);
+        return row_description(by_boundary, case, one, out);
     }
     if !case::has_list(kind) {
         let first = case.numbers[0];
