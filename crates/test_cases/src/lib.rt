@@ -4,79 +4,125 @@
 
 pub mod head;
 
-ghost use Rattle.std.specs.Prelude.{◌≤◌, min, length};
+ghost use Rattle.std.specs.Prelude.{◌≤◌, IfOk, min, length};
 
-use libc::STDOUT_FILENO;
 use protocol::{Encoded, List, Span};
+use std::io;
+use std::io::{BufWriter, Read, Stdout, Write};
 
 // ---- written
 
-pub fn write(bytes: &[u8]) {
-    io::write_all(STDOUT_FILENO, bytes);
+// Standard output, through a buffer. Once a write fails nothing more is written, and `finish` gives the error: who writes need not look at each one,
+// and no program can end without `finish`, as an `Output` cannot be let go.
+pub struct Output {
+    writer: BufWriter<Stdout>,
+    result: io::Result<()>,
 }
 
-pub fn write_letter(letter: u8) {
-    write(&[letter]);
+impl Output {
+    pub fn new(rt: HostRuntime) -> io::Result<Output> {
+        let writer = BufWriter::new(rt.alloc(), rt.stdout())?;
+        Ok(Output {
+            writer,
+            result: Ok(()),
+        })
+    }
+
+    // Writes what is left in the buffer; or gives the first error.
+    pub fn finish(self) -> io::Result<()> {
+        let Output { mut writer, result } = self;
+        result?;
+        writer.flush()
+    }
 }
 
-pub fn write_number(n: usize) {
-    io::print_decimal(STDOUT_FILENO, n as u64);
+pub fn write(to: &mut Output, bytes: &[u8]) {
+    if to.result.is_ok() {
+        to.result = to.writer.write_all(bytes);
+    }
+}
+
+pub fn write_letter(to: &mut Output, letter: u8) {
+    write(to, &[letter]);
+}
+
+pub fn write_number(to: &mut Output, n: usize) {
+    if to.result.is_ok() {
+        to.result = write!(to.writer, "{n}");
+    }
 }
 
 // By its bits: a number below zero is written as what it lacks of 2^32.
-pub fn write_signed(n: i32) {
+pub fn write_signed(to: &mut Output, n: i32) {
     let bits = writers::bits32(n) as usize;
     if bits < 2147483648 {
-        write_number(bits);
+        write_number(to, bits);
         return;
     }
-    write(b"-");
-    write_number(4294967296 - bits);
+    write(to, b"-");
+    write_number(to, 4294967296 - bits);
 }
 
-fn wide(byte: u8) -> u64 {
-    byte as u64
+fn write_byte(to: &mut Output, byte: u8) {
+    if to.result.is_ok() {
+        to.result = write!(to.writer, " {byte:02x}");
+    }
 }
 
 // Each byte after a space.
-pub fn write_hex(bytes: &[u8]) {
+pub fn write_hex(to: &mut Output, bytes: &[u8]) {
     for i in 0..bytes.len() {
-        write_letter(b' ');
-        io::print_hex(STDOUT_FILENO, wide(bytes[i]), 2);
+        write_byte(to, bytes[i]);
     }
 }
 
 // A string, a value or a rest.
-pub fn write_span(span: Span) {
-    write_number(span.start);
-    write(b"+");
-    write_number(span.len);
+pub fn write_span(to: &mut Output, span: Span) {
+    write_number(to, span.start);
+    write(to, b"+");
+    write_number(to, span.len);
 }
 
-pub fn write_list(list: List) {
-    write_number(list.start);
-    write(b"x");
-    write_number(list.count);
+pub fn write_list(to: &mut Output, list: List) {
+    write_number(to, list.start);
+    write(to, b"x");
+    write_number(to, list.count);
 }
 
-pub fn write_refused(number: u8, place: usize) {
-    write(b"refused ");
-    write_number(number as usize);
-    write(b" at ");
-    write_number(place);
+pub fn write_refused(to: &mut Output, number: u8, place: usize) {
+    write(to, b"refused ");
+    write_number(to, number as usize);
+    write(to, b" at ");
+    write_number(to, place);
 }
 
-pub fn write_encoded(encoded: Encoded) {
+pub fn write_encoded(to: &mut Output, encoded: Encoded) {
     match encoded {
         Encoded::Done(size) => {
-            write(b"done ");
-            write_number(size);
+            write(to, b"done ");
+            write_number(to, size);
         }
-        Encoded::Refused(number, place) => write_refused(number, place),
+        Encoded::Refused(number, place) => write_refused(to, number, place),
     }
 }
 
 // ---- read
+
+// Standard input up to its end, put at the start of `room`; of a longer one, as much as there is room for. It may arrive in pieces.
+pub fn read_input(rt: HostRuntime, room: &mut [u8]) -> io::Result<usize>
+    ensures { IfOk result (λ count. count ≤ length room.new) }
+{
+    let mut input = rt.stdin();
+    let mut count: usize = 0;
+    while count < room.len() {
+        let more = input.read(&mut room[count..])?;
+        if more == 0 {
+            break;
+        }
+        count += more;
+    }
+    Ok(count)
+}
 
 pub const NO_DIGIT: u8 = 16;
 

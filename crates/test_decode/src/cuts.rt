@@ -4,6 +4,7 @@ ghost use Rattle.std.specs.Prelude.{◌<◌, ◌≤◌};
 use crate::hex;
 use crate::hex::ROOM;
 use protocol::Decoded;
+use test_cases::Output;
 
 // What decode answers of a frame that is cut. A whole record has consumed all its bytes.
 #[derive(Clone, Copy)]
@@ -53,31 +54,31 @@ fn is_same(a: Verdict, b: Verdict) -> bool {
     }
 }
 
-fn write_verdict(verdict: Verdict) {
+fn write_verdict(to: &mut Output, verdict: Verdict) {
     match verdict {
-        Verdict::Whole => test_cases::write(b" ok"),
+        Verdict::Whole => test_cases::write(to, b" ok"),
         Verdict::Strange(consumed) => {
-            test_cases::write(b" WRONG consumed ");
-            test_cases::write_number(consumed);
+            test_cases::write(to, b" WRONG consumed ");
+            test_cases::write_number(to, consumed);
         }
-        Verdict::NeedMore => test_cases::write(b" need-more"),
+        Verdict::NeedMore => test_cases::write(to, b" need-more"),
         Verdict::Refused(number, place) => {
-            test_cases::write(b" ");
-            test_cases::write_number(number as usize);
-            test_cases::write(b"@");
-            test_cases::write_number(place);
+            test_cases::write(to, b" ");
+            test_cases::write_number(to, number as usize);
+            test_cases::write(to, b"@");
+            test_cases::write_number(to, place);
         }
     }
 }
 
 // The totals from `first` to `last` have one verdict.
-fn write_run(first: usize, last: usize, verdict: Verdict) {
-    test_cases::write_number(first);
+fn write_run(to: &mut Output, first: usize, last: usize, verdict: Verdict) {
+    test_cases::write_number(to, first);
     if first < last {
-        test_cases::write(b"-");
-        test_cases::write_number(last);
+        test_cases::write(to, b"-");
+        test_cases::write_number(to, last);
     }
-    write_verdict(verdict);
+    write_verdict(to, verdict);
 }
 
 // The length word at `place` anew.
@@ -111,7 +112,7 @@ fn verdict_at(mode: u8, frame: [u8; ROOM], total: usize) -> Verdict
 }
 
 // The answers of `first` to `last` bytes, in runs of equal ones.
-fn write_runs(mode: u8, frame: [u8; ROOM], first: usize, last: usize)
+fn write_runs(to: &mut Output, mode: u8, frame: [u8; ROOM], first: usize, last: usize)
     requires { 0 < first }
 {
     let mut run_start = first;
@@ -121,26 +122,26 @@ fn write_runs(mode: u8, frame: [u8; ROOM], first: usize, last: usize)
         total += 1;
         let verdict = verdict_at(mode, frame, total);
         if !is_same(run_verdict, verdict) {
-            write_run(run_start, total - 1, run_verdict);
-            test_cases::write(b", ");
+            write_run(to, run_start, total - 1, run_verdict);
+            test_cases::write(to, b", ");
             run_start = total;
             run_verdict = verdict;
         }
     }
-    write_run(run_start, total, run_verdict);
+    write_run(to, run_start, total, run_verdict);
 }
 
 // From the header alone to one byte more than the frame has: behind the bytes that were given stand zeros.
-pub fn write_cuts(mode: u8, frame: [u8; ROOM], count: usize) {
+pub fn write_cuts(to: &mut Output, mode: u8, frame: [u8; ROOM], count: usize) {
     if ROOM <= count {
-        test_cases::write(b"no room for one byte more");
+        test_cases::write(to, b"no room for one byte more");
         return;
     }
     match mode {
-        0 => write_runs(mode, frame, 5, count + 1),
-        1 => write_runs(mode, frame, 5, count + 1),
-        2 => write_runs(mode, frame, 8, count + 1),
-        5 => write_runs(mode, frame, 8, count + 1),
-        _ => test_cases::write(b"no length to mend"),
+        0 => write_runs(to, mode, frame, 5, count + 1),
+        1 => write_runs(to, mode, frame, 5, count + 1),
+        2 => write_runs(to, mode, frame, 8, count + 1),
+        5 => write_runs(to, mode, frame, 8, count + 1),
+        _ => test_cases::write(to, b"no length to mend"),
     }
 }

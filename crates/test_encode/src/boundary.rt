@@ -1,6 +1,7 @@
 // The boundary for other languages answers one number: the bytes written, or the largest number less the refusal's. It leaves out a
 // refusal's place, which is always 0.
 use protocol::Encoded;
+use protocol::data::FieldDescription;
 
 const LARGEST: usize = 18446744073709551615;
 
@@ -38,6 +39,12 @@ pub fn listed(
 ) -> Encoded {
     encoded(host::encoding::tusweram_encode_lists(
         kind, format, one, two, joined, words, lengths, formats, results, out,
+    ))
+}
+
+pub fn row_description(fields: &[FieldDescription], run: &[u8], out: &mut [u8]) -> Encoded {
+    encoded(host::encoding::tusweram_encode_row_description(
+        fields, run, out,
     ))
 }
 

@@ -4,7 +4,7 @@ use crate::text::write_answer;
 use crate::{SPARE, boundary, case, direct, fields, long};
 use protocol::data::FieldDescription;
 use protocol::{Encoded, Span};
-use test_cases::write;
+use test_cases::{Output, write};
 
 // A field with this name in the run, and with numbers whose bytes differ.
 fn field(start: usize, len: usize) -> FieldDescription {
@@ -42,13 +42,15 @@ fn first_formats(formats: &[i16], count: usize) -> &[i16] {
     &formats[0..count]
 }
 
-fn row_description(case: Case, run: &[u8], out: &mut [u8]) -> Encoded {
+fn row_description(by_boundary: bool, case: Case, run: &[u8], out: &mut [u8]) -> Encoded {
     let first = field(case.start, case.len);
-    if case.size_count == 4 {
-        return fields::description_of_one([first], run, out);
-    }
     let second = field(case.next_start, case.next_len);
-    fields::description_of_two([first, second], run, out)
+    match (by_boundary, case.size_count == 4) {
+        (false, true) => fields::description_of_one([first], run, out),
+        (false, false) => fields::description_of_two([first, second], run, out),
+        (true, true) => boundary::row_description(&[first], run, out),
+        (true, false) => boundary::row_description(&[first, second], run, out),
+    }
 }
 
 fn plain(
@@ -90,8 +92,7 @@ fn listed(
     )
 }
 
-// The case's call, with as many bytes and numbers of the arrays as it says: of its encoder, or of the boundary's function. The boundary takes a
-// row's fields as a slice, which would be walked by hand here, so a RowDescription goes to its encoder both times.
+// The case's call, with as many bytes and numbers of the arrays as it says: of its encoder, or of the boundary's function.
 pub fn call<'a>(
     by_boundary: bool,
     case: Case,
@@ -106,7 +107,7 @@ pub fn call<'a>(
     let one = decode::part(bytes, 0, case.one_len);
     let two = decode::part(bytes, 64, case.two_len);
     if kind == case::ROW_DESCRIPTION {
-        return row_description(case, one, out);
+        return row_description(by_boundary, case, one, out);
     }
     if !case::has_list(kind) {
         let first = case.numbers[0];
@@ -150,16 +151,16 @@ fn encode_in(by_boundary: bool, case: Case, out: &mut [u8]) -> Encoded {
 }
 
 // The encoder's answer, and its output after the call. The boundary's, in an output of its own, are the same.
-fn answer_in(case: Case, out: &mut [u8], other: &mut [u8]) {
+fn answer_in(to: &mut Output, case: Case, out: &mut [u8], other: &mut [u8]) {
     let encoded = encode_in(false, case, out);
     let again = encode_in(true, case, other);
-    write_answer(encoded, out);
+    write_answer(to, encoded, out);
     if !boundary::is_same(encoded, out, again, other) {
-        write(b" WRONG at the boundary");
+        write(to, b" WRONG at the boundary");
     }
 }
 
-pub fn answer(case: Case) {
+pub fn answer(to: &mut Output, case: Case) {
     let room = case.room;
     if case.section == case::COMMENT {
         return;
@@ -168,9 +169,9 @@ pub fn answer(case: Case) {
         if case::is_whole(case) {
             let mut out = long::full(SPARE);
             let mut other = long::full(SPARE);
-            answer_in(case, &mut out[0..room], &mut other[0..room]);
+            answer_in(to, case, &mut out[0..room], &mut other[0..room]);
             return;
         }
     }
-    write(b" = malformed case");
+    write(to, b" = malformed case");
 }

@@ -1,4 +1,4 @@
-// A RowDescription of one field or two that are given by value. Walked by hand: the array is lent.
+// A RowDescription of one field or two that are given by value.
 ghost use Rattle.protocol.specs.Encode.{Encodes};
 ghost use Rattle.protocol.specs.Kinds as K;
 ghost use Rattle.encode.specs.Given as G;

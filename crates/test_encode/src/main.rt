@@ -11,32 +11,34 @@ mod long;
 mod text;
 
 use case::Case;
-use libc::STDIN_FILENO;
-use test_cases::write_letter;
+use std::io;
+use test_cases::{Output, write_letter};
 
 // Stands in every byte of an output before a call: what an encoder leaves is seen.
 pub const SPARE: u8 = 238;
 
 // A line's end comes after the answer.
-fn with_letter(case: Case, letter: u8) -> Case {
+fn with_letter(to: &mut Output, case: Case, letter: u8) -> Case {
     if letter == b'\n' {
-        calls::answer(case::step(case, b' '));
-        write_letter(letter);
+        calls::answer(to, case::step(case, b' '));
+        write_letter(to, letter);
         return case::start();
     }
-    write_letter(letter);
+    write_letter(to, letter);
     case::step(case, letter)
 }
 
-fn answer_lines(letters: &[u8]) {
+fn answer_lines(to: &mut Output, letters: &[u8]) {
     let mut case = case::start();
     for i in 0..letters.len() {
-        case = with_letter(case, letters[i]);
+        case = with_letter(to, case, letters[i]);
     }
 }
 
-fn main() {
-    let mut input = io::large_buffer();
-    let count = io::read_full(STDIN_FILENO, &mut input);
-    answer_lines(&input[..count]);
+fn main(rt: HostRuntime) -> io::Result<()> {
+    let mut input = [0u8; 65536];
+    let count = test_cases::read_input(rt, &mut input)?;
+    let mut to = Output::new(rt)?;
+    answer_lines(&mut to, &input[..count]);
+    to.finish()
 }

@@ -3,7 +3,7 @@ use crate::tables;
 use crate::tables::{has_codes, is_bare};
 use protocol::Decoded;
 use protocol::kinds::Line;
-use test_cases::{write, write_number, write_refused};
+use test_cases::{Output, write, write_number, write_refused};
 
 // What decode answers, of a record only the bytes consumed.
 #[derive(Clone, Copy)]
@@ -50,14 +50,14 @@ fn is_same(answer: Answer, wanted: Answer) -> bool {
     }
 }
 
-fn write_answer(answer: Answer) {
+fn write_answer(to: &mut Output, answer: Answer) {
     match answer {
         Answer::Record(bytes) => {
-            write(b"a record of ");
-            write_number(bytes);
+            write(to, b"a record of ");
+            write_number(to, bytes);
         }
-        Answer::NeedMore => write(b"need-more"),
-        Answer::Refused(number, place) => write_refused(number, place),
+        Answer::NeedMore => write(to, b"need-more"),
+        Answer::Refused(number, place) => write_refused(to, number, place),
     }
 }
 
@@ -88,32 +88,32 @@ fn answer_to(mode: u8, tag: u32, length: u32) -> Answer {
 }
 
 // Whether the header gets the answer; where it gets another, a line says so.
-pub fn gets(mode: u8, tag: u32, length: u32, wanted: Answer) -> bool {
+pub fn gets(to: &mut Output, mode: u8, tag: u32, length: u32, wanted: Answer) -> bool {
     let answer = answer_to(mode, tag, length);
     if is_same(answer, wanted) {
         return true;
     }
-    write(b"mode ");
-    write_number(mode as usize);
-    write(b", tag ");
-    write_number(tag as usize);
-    write(b", length ");
-    write_number(length as usize);
-    write(b": ");
-    write_answer(answer);
-    write(b", but the table says ");
-    write_answer(wanted);
-    write(b"\n");
+    write(to, b"mode ");
+    write_number(to, mode as usize);
+    write(to, b", tag ");
+    write_number(to, tag as usize);
+    write(to, b", length ");
+    write_number(to, length as usize);
+    write(to, b": ");
+    write_answer(to, answer);
+    write(to, b", but the table says ");
+    write_answer(to, wanted);
+    write(to, b"\n");
     false
 }
 
 // No line has the tag: whatever the length is, the tag is refused where it stands.
-fn is_unknown(mode: u8, tag: u32) -> bool {
+fn is_unknown(to: &mut Output, mode: u8, tag: u32) -> bool {
     let place = if has_codes(mode) { 4 } else { 0 };
-    let none = gets(mode, tag, 0, Answer::Refused(2, place));
-    let short = gets(mode, tag, 16, Answer::Refused(2, place));
-    let long = gets(mode, tag, 1048577, Answer::Refused(2, place));
-    let negative = gets(mode, tag, 4294967295, Answer::Refused(2, place));
+    let none = gets(to, mode, tag, 0, Answer::Refused(2, place));
+    let short = gets(to, mode, tag, 16, Answer::Refused(2, place));
+    let long = gets(to, mode, tag, 1048577, Answer::Refused(2, place));
+    let negative = gets(to, mode, tag, 4294967295, Answer::Refused(2, place));
     none & short & long & negative
 }
 
@@ -133,37 +133,37 @@ fn smallest_frame(mode: u8, smallest: u32) -> Answer {
 }
 
 // The lengths of a line, and one below and one above them. A type byte is not counted by the length, and stands before it.
-fn is_bounded(mode: u8, line: Line) -> bool {
+fn is_bounded(to: &mut Output, mode: u8, line: Line) -> bool {
     let tag = line.1;
     let smallest = line.2;
     let limit = line.3;
     let place = if has_codes(mode) { 0 } else { 1 };
     let below = std::num::wrapping_sub_u32(smallest, 1);
     let above = std::num::wrapping_add_u32(limit, 1);
-    let refused_below = gets(mode, tag, below, Answer::Refused(3, place));
-    let taken_from = gets(mode, tag, smallest, smallest_frame(mode, smallest));
-    let taken_to = gets(mode, tag, limit, Answer::NeedMore);
-    let refused_above = gets(mode, tag, above, Answer::Refused(4, place));
+    let refused_below = gets(to, mode, tag, below, Answer::Refused(3, place));
+    let taken_from = gets(to, mode, tag, smallest, smallest_frame(mode, smallest));
+    let taken_to = gets(to, mode, tag, limit, Answer::NeedMore);
+    let refused_above = gets(to, mode, tag, above, Answer::Refused(4, place));
     refused_below & taken_from & taken_to & refused_above
 }
 
 // One byte is all of a frame, or none.
-fn is_answer(mode: u8, byte: u32, in_table: bool) -> bool {
+fn is_answer(to: &mut Output, mode: u8, byte: u32, in_table: bool) -> bool {
     if in_table {
-        return gets(mode, byte, 0, Answer::Record(1));
+        return gets(to, mode, byte, 0, Answer::Record(1));
     }
-    gets(mode, byte, 0, Answer::Refused(2, 0))
+    gets(to, mode, byte, 0, Answer::Refused(2, 0))
 }
 
 // Whether decoding does with a type byte, an answer byte or a code what the mode's table says.
-pub fn is_right(mode: u8, tag: u32) -> bool {
+pub fn is_right(to: &mut Output, mode: u8, tag: u32) -> bool {
     let line = tables::find(mode, tag);
     let in_table = tables::is_kind(line);
     if is_bare(mode) {
-        return is_answer(mode, tag, in_table);
+        return is_answer(to, mode, tag, in_table);
     }
     if in_table {
-        return is_bounded(mode, line);
+        return is_bounded(to, mode, line);
     }
-    is_unknown(mode, tag)
+    is_unknown(to, mode, tag)
 }

@@ -2,7 +2,7 @@
 use crate::answers::Answer;
 use crate::{answers, tables};
 use protocol::tables::line_at;
-use test_cases::{write, write_number};
+use test_cases::{Output, write, write_number};
 
 // Lines of a table of codes that are taken: more than there are.
 const LINES: usize = 16;
@@ -30,40 +30,40 @@ fn more(n: usize) -> usize {
     std::num::wrapping_add_usize(n, 1)
 }
 
-fn tried(tally: Tally, mode: u8, tag: u32) -> Tally {
+fn tried(to: &mut Output, tally: Tally, mode: u8, tag: u32) -> Tally {
     let mut tally = tally;
     tally.tried = more(tally.tried);
     if tables::is_kind(tables::find(mode, tag)) {
         tally.in_table = more(tally.in_table);
     }
-    if !answers::is_right(mode, tag) {
+    if !answers::is_right(to, mode, tag) {
         tally.wrong = more(tally.wrong);
     }
     tally
 }
 
-fn write_tally(mode: u8, what: &[u8], tally: Tally) {
-    write(b"mode ");
-    write_number(mode as usize);
-    write(b": ");
-    write_number(tally.tried);
-    write(what);
-    write_number(tally.in_table);
-    write(b" in the table, ");
+fn write_tally(to: &mut Output, mode: u8, what: &[u8], tally: Tally) {
+    write(to, b"mode ");
+    write_number(to, mode as usize);
+    write(to, b": ");
+    write_number(to, tally.tried);
+    write(to, what);
+    write_number(to, tally.in_table);
+    write(to, b" in the table, ");
     if tally.wrong == 0 {
-        write(b"decoded as it says\n");
+        write(to, b"decoded as it says\n");
         return;
     }
-    write_number(tally.wrong);
-    write(b" not decoded as it says\n");
+    write_number(to, tally.wrong);
+    write(to, b" not decoded as it says\n");
 }
 
-pub fn every_byte(mode: u8) {
+pub fn every_byte(to: &mut Output, mode: u8) {
     let mut tally = start();
     for byte in 0..256 {
-        tally = tried(tally, mode, byte);
+        tally = tried(to, tally, mode, byte);
     }
-    write_tally(mode, b" bytes, ", tally);
+    write_tally(to, mode, b" bytes, ", tally);
 }
 
 // A code of modes 2 and 5, the one below it and the one above it. Behind a table's end the code is 0, so 4294967295, 0 and 1 are among them.
@@ -88,29 +88,29 @@ fn is_first(number: usize) -> bool {
 }
 
 // Each code once.
-pub fn codes_around(mode: u8) {
+pub fn codes_around(to: &mut Output, mode: u8) {
     let mut tally = start();
     for number in 0..CODES {
         if is_first(number) {
-            tally = tried(tally, mode, code(number));
+            tally = tried(to, tally, mode, code(number));
         }
     }
-    write_tally(mode, b" codes, ", tally);
+    write_tally(to, mode, b" codes, ", tally);
 }
 
 // A mode above 5 has no table, and is refused before anything else.
-pub fn no_other_mode() {
+pub fn no_other_mode(to: &mut Output) {
     let mut wrong: usize = 0;
     for mode in 6..=255 {
         let in_table = tables::is_kind(line_at(mode, 0));
-        if in_table | !answers::gets(mode, 0, 4, Answer::Refused(1, 0)) {
+        if in_table | !answers::gets(to, mode, 0, 4, Answer::Refused(1, 0)) {
             wrong = more(wrong);
         }
     }
     if wrong == 0 {
-        write(b"modes 6 to 255: no table, refused\n");
+        write(to, b"modes 6 to 255: no table, refused\n");
         return;
     }
-    write_number(wrong);
-    write(b" modes above 5 have a table or are not refused\n");
+    write_number(to, wrong);
+    write(to, b" modes above 5 have a table or are not refused\n");
 }

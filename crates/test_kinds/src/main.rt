@@ -7,16 +7,19 @@ mod answers;
 mod checks;
 mod tables;
 
-use test_cases::write;
+use std::io;
+use test_cases::{Output, write};
 
-fn main() {
-    write(b"mode kind type smallest limit number\n");
-    tables::write_tables();
-    checks::no_other_mode();
-    checks::every_byte(0);
-    checks::every_byte(1);
-    checks::codes_around(2);
-    checks::every_byte(3);
-    checks::every_byte(4);
-    checks::codes_around(5);
+fn main(rt: HostRuntime) -> io::Result<()> {
+    let mut to = Output::new(rt)?;
+    write(&mut to, b"mode kind type smallest limit number\n");
+    tables::write_tables(&mut to);
+    checks::no_other_mode(&mut to);
+    checks::every_byte(&mut to, 0);
+    checks::every_byte(&mut to, 1);
+    checks::codes_around(&mut to, 2);
+    checks::every_byte(&mut to, 3);
+    checks::every_byte(&mut to, 4);
+    checks::codes_around(&mut to, 5);
+    to.finish()
 }

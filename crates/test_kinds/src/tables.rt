@@ -1,7 +1,7 @@
 // The tables, line by line, as text; and the line of a type byte, an answer byte or a code.
 use protocol::kinds::Line;
 use protocol::tables::{NO_KIND, letters_in, line_at};
-use test_cases::{write, write_letter, write_number};
+use test_cases::{Output, write, write_letter, write_number};
 
 // More lines than any table has.
 const MOST: usize = 64;
@@ -21,49 +21,49 @@ pub fn is_bare(mode: u8) -> bool {
     (mode == 3) | (mode == 4)
 }
 
-fn write_name(name: [u8; 20]) {
+fn write_name(to: &mut Output, name: [u8; 20]) {
     let len = letters_in(name);
-    write(decode::part(&name, 0, len));
+    write(to, decode::part(&name, 0, len));
 }
 
-fn write_tag(mode: u8, tag: u32) {
+fn write_tag(to: &mut Output, mode: u8, tag: u32) {
     if has_codes(mode) {
-        write_number(tag as usize);
+        write_number(to, tag as usize);
     } else {
-        write_letter((tag % 256) as u8);
+        write_letter(to, (tag % 256) as u8);
     }
 }
 
-fn write_line(mode: u8, line: Line) {
+fn write_line(to: &mut Output, mode: u8, line: Line) {
     let name = line.0;
-    write_number(mode as usize);
-    write(b" ");
-    write_name(name);
-    write(b" ");
-    write_tag(mode, line.1);
-    write(b" ");
-    write_number(line.2 as usize);
-    write(b" ");
-    write_number(line.3 as usize);
-    write(b" ");
-    write_number(line.4 as usize);
-    write(b"\n");
+    write_number(to, mode as usize);
+    write(to, b" ");
+    write_name(to, name);
+    write(to, b" ");
+    write_tag(to, mode, line.1);
+    write(to, b" ");
+    write_number(to, line.2 as usize);
+    write(to, b" ");
+    write_number(to, line.3 as usize);
+    write(to, b" ");
+    write_number(to, line.4 as usize);
+    write(to, b"\n");
 }
 
-fn write_table(mode: u8) {
+fn write_table(to: &mut Output, mode: u8) {
     for index in 0..MOST {
         let line = line_at(mode, index);
         if !is_kind(line) {
             return;
         }
-        write_line(mode, line);
+        write_line(to, mode, line);
     }
-    write(b"a table has more lines than are read\n");
+    write(to, b"a table has more lines than are read\n");
 }
 
-pub fn write_tables() {
+pub fn write_tables(to: &mut Output) {
     for mode in 0..6 {
-        write_table(mode);
+        write_table(to, mode);
     }
 }
 

@@ -4,18 +4,11 @@
 
 ghost use Rattle.std.specs.Prelude.{◌≤◌};
 
-use libc::STDOUT_FILENO;
 use listing::Left;
+use std::{env, io};
+use test_cases::{Output, write, write_number};
 
 const ROOM: usize = 65538;
-
-fn write(bytes: &[u8]) {
-    io::write_all(STDOUT_FILENO, bytes);
-}
-
-fn write_number(n: u64) {
-    io::print_decimal(STDOUT_FILENO, n);
-}
 
 fn is_left(left: Left) -> bool {
     match left {
@@ -47,19 +40,19 @@ fn read_hex(text: &[u8], room: &mut [u8; 512]) -> usize {
     count
 }
 
-fn print(input: &[u8]) {
+fn print(to: &mut Output, input: &[u8]) {
     let mut left = Left::All;
     for _ in 0..input.len() + 2 {
         let mut page = [0u8; 64];
         let filled = listing::fill(input, left, &mut page);
         let count = filled.count;
-        write(decode::part(&page, 0, count));
+        write(to, decode::part(&page, 0, count));
         left = filled.left;
         if !is_left(left) {
             return;
         }
     }
-    write(b"NOT ENDED\n");
+    write(to, b"NOT ENDED\n");
 }
 
 fn wide(byte: u8) -> u64 {
@@ -74,7 +67,7 @@ fn sum(bytes: &[u8]) -> u64 {
     total
 }
 
-fn print_size(input: &[u8]) {
+fn print_size(to: &mut Output, input: &[u8]) {
     let mut left = Left::All;
     let mut bytes: u64 = 0;
     let mut total: u64 = 0;
@@ -86,15 +79,15 @@ fn print_size(input: &[u8]) {
         total = std::num::wrapping_add_u64(total, sum(decode::part(&page, 0, count)));
         left = filled.left;
         if !is_left(left) {
-            write_number(bytes);
-            write(b" bytes, sum ");
-            write_number(total);
-            write(b", last line ");
-            write(decode::part(&page, 0, count));
+            write_number(to, bytes as usize);
+            write(to, b" bytes, sum ");
+            write_number(to, total as usize);
+            write(to, b", last line ");
+            write(to, decode::part(&page, 0, count));
             return;
         }
     }
-    write(b"NOT ENDED\n");
+    write(to, b"NOT ENDED\n");
 }
 
 fn full(byte: u8) -> [u8; ROOM] {
@@ -106,20 +99,20 @@ fn first_of(input: &[u8; ROOM], count: usize) -> &[u8] {
 }
 
 // A digit for the mode, and then one byte over and over: `count` bytes in all.
-fn print_same(digit: u8, byte: u8, count: usize) {
+fn print_same(to: &mut Output, digit: u8, byte: u8, count: usize) {
     let mut input = full(byte);
     input[0] = digit;
-    print_size(first_of(&input, count));
+    print_size(to, first_of(&input, count));
 }
 
 // A CopyData of 65,536 bytes: its length is 65,535.
-fn print_large() {
+fn print_large(to: &mut Output) {
     let mut input = full(0);
     input[0] = b'0';
     input[1] = b'd';
     input[4] = 255;
     input[5] = 255;
-    print(first_of(&input, 65537));
+    print(to, first_of(&input, 65537));
 }
 
 // The first bytes of what was read.
@@ -127,36 +120,41 @@ fn first(room: &[u8; 512], count: usize) -> &[u8] {
     decode::part(room, 0, count)
 }
 
-fn print_argument(argument: &[u8]) {
+fn print_argument(to: &mut Output, argument: &[u8]) {
     let kind = if argument.len() == 0 { 0 } else { argument[0] };
     if kind == b'#' {
-        write(argument);
-        write(b"\n");
+        write(to, argument);
+        write(to, b"\n");
         return;
     }
     let mut room = [0u8; 512];
     let count = read_hex(argument, &mut room);
-    print(first(&room, count));
+    print(to, first(&room, count));
 }
 
-fn print_arguments() {
-    for i in 1..os::arg_count() {
-        let mut argument = io::buffer();
-        let count = os::arg(i, &mut argument);
-        print_argument(&argument[..count]);
+// All but the program's name.
+fn print_arguments(to: &mut Output, arguments: env::Args) {
+    for argument in arguments.skip(1) {
+        print_argument(to, argument.as_bytes());
     }
 }
 
-fn main() {
-    print_arguments();
-    write(b"# 65,536 answers of one byte\n");
-    print_same(b'3', b'S', 65537);
-    print_same(b'4', b'N', 65537);
-    write(b"# one byte more\n");
-    print_same(b'3', b'S', 65538);
-    print_same(b'5', b'S', 65538);
-    write(b"# one byte more, and no mode: the mode is tested first\n");
-    print_same(b'6', b'S', 65538);
-    write(b"# a frame of 65,536 bytes\n");
-    print_large();
+fn main(rt: HostRuntime) -> io::Result<()> {
+    let arguments = env::args(&rt)?;
+    let mut to = Output::new(rt)?;
+    print_arguments(&mut to, arguments);
+    write(&mut to, b"# 65,536 answers of one byte\n");
+    print_same(&mut to, b'3', b'S', 65537);
+    print_same(&mut to, b'4', b'N', 65537);
+    write(&mut to, b"# one byte more\n");
+    print_same(&mut to, b'3', b'S', 65538);
+    print_same(&mut to, b'5', b'S', 65538);
+    write(
+        &mut to,
+        b"# one byte more, and no mode: the mode is tested first\n",
+    );
+    print_same(&mut to, b'6', b'S', 65538);
+    write(&mut to, b"# a frame of 65,536 bytes\n");
+    print_large(&mut to);
+    to.finish()
 }

@@ -4,7 +4,7 @@ ghost use Rattle.std.specs.Prelude.{◌≡◌, length};
 use codec::Cursor;
 use items::response::ErrorStep;
 use protocol::{Span, rules_of};
-use test_cases::{write, write_number};
+use test_cases::{Output, write, write_number};
 
 pub const COUNT: usize = 40000;
 
@@ -54,7 +54,7 @@ fn is_string(frame: &[u8], i: usize, string: Span) -> bool {
 }
 
 // Each field by one call, from the place that the one before it gave.
-pub fn write_pass(frame: &[u8; ROOM]) {
+pub fn write_pass(to: &mut Output, frame: &[u8; ROOM]) {
     let mut at: usize = 5;
     let mut right: usize = 0;
     for i in 0..COUNT {
@@ -63,7 +63,7 @@ pub fn write_pass(frame: &[u8; ROOM]) {
             frame,
             Cursor { at },
         ) else {
-            write(b"one pass: cut\n");
+            write(to, b"one pass: cut\n");
             return;
         };
         if (code == code_of(i)) & is_string(frame, i, string) & (next.at == 8 + i * 3) {
@@ -71,9 +71,9 @@ pub fn write_pass(frame: &[u8; ROOM]) {
         }
         at = next.at;
     }
-    write(b"one pass: ");
-    write_number(right);
-    write(b" fields right, ended at ");
-    write_number(at);
-    write(b"\n");
+    write(to, b"one pass: ");
+    write_number(to, right);
+    write(to, b" fields right, ended at ");
+    write_number(to, at);
+    write(to, b"\n");
 }

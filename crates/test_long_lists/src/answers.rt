@@ -1,61 +1,61 @@
 // What the library answers, in text. Of a message its lists are written, each as its start and its count.
 use protocol::extendedquery::Bind;
 use protocol::{Decoded, Element, List, Message};
-use test_cases::{write, write_number, write_refused};
+use test_cases::{Output, write, write_number, write_refused};
 
-fn write_list(name: &[u8], list: List) {
-    write(name);
-    test_cases::write_list(list);
+fn write_list(to: &mut Output, name: &[u8], list: List) {
+    write(to, name);
+    test_cases::write_list(to, list);
 }
 
-fn write_bind(bind: Bind) {
-    write_list(b"Bind formats ", bind.parameter_format_codes);
-    write_list(b" values ", bind.parameters);
-    write_list(b" results ", bind.result_column_format_codes);
+fn write_bind(to: &mut Output, bind: Bind) {
+    write_list(to, b"Bind formats ", bind.parameter_format_codes);
+    write_list(to, b" values ", bind.parameters);
+    write_list(to, b" results ", bind.result_column_format_codes);
 }
 
-fn write_message(message: Message) {
+fn write_message(to: &mut Output, message: Message) {
     match message {
-        Message::Parse(parse) => write_list(b"Parse oids ", parse.type_oids),
-        Message::Bind(bind) => write_bind(bind),
+        Message::Parse(parse) => write_list(to, b"Parse oids ", parse.type_oids),
+        Message::Bind(bind) => write_bind(to, bind),
         Message::ParameterDescription(parameters) => {
-            write_list(b"ParameterDescription oids ", parameters.types)
+            write_list(to, b"ParameterDescription oids ", parameters.types)
         }
-        Message::DataRow(row) => write_list(b"DataRow values ", row.data),
-        Message::RowDescription(row) => write_list(b"RowDescription fields ", row.fields),
+        Message::DataRow(row) => write_list(to, b"DataRow values ", row.data),
+        Message::RowDescription(row) => write_list(to, b"RowDescription fields ", row.fields),
         Message::CopyInResponse(copy) => {
-            write_list(b"CopyInResponse formats ", copy.column_formats)
+            write_list(to, b"CopyInResponse formats ", copy.column_formats)
         }
-        _ => write(b"another message"),
+        _ => write(to, b"another message"),
     }
 }
 
-pub fn write_decoded(mode: u8, buf: &[u8]) {
+pub fn write_decoded(to: &mut Output, mode: u8, buf: &[u8]) {
     match decode::decode(mode, buf) {
         Decoded::Record(message, consumed) => {
-            write_message(message);
-            write(b", ");
-            write_number(consumed);
-            write(b" consumed");
+            write_message(to, message);
+            write(to, b", ");
+            write_number(to, consumed);
+            write(to, b" consumed");
         }
-        Decoded::NeedMore => write(b"need-more"),
-        Decoded::Refused(number, place) => write_refused(number, place),
+        Decoded::NeedMore => write(to, b"need-more"),
+        Decoded::Refused(number, place) => write_refused(to, number, place),
     }
-    write(b"\n");
+    write(to, b"\n");
 }
 
 // A format that is not negative is written by its bits.
-pub fn write_element(mode: u8, buf: &[u8], list: usize, number: usize) {
-    write(b"element ");
-    write_number(number);
-    write(b": ");
+pub fn write_element(to: &mut Output, mode: u8, buf: &[u8], list: usize, number: usize) {
+    write(to, b"element ");
+    write_number(to, number);
+    write(to, b": ");
     match element::element(mode, buf, list, number) {
-        Element::Oid(oid) => write_number(oid as usize),
-        Element::Format(format) => write_number(writers::bits16(format) as usize),
-        Element::Null => write(b"NULL"),
-        Element::Value(value) => test_cases::write_span(value),
-        Element::Refused(number, place) => write_refused(number, place),
-        _ => write(b"another element"),
+        Element::Oid(oid) => write_number(to, oid as usize),
+        Element::Format(format) => write_number(to, writers::bits16(format) as usize),
+        Element::Null => write(to, b"NULL"),
+        Element::Value(value) => test_cases::write_span(to, value),
+        Element::Refused(number, place) => write_refused(to, number, place),
+        _ => write(to, b"another element"),
     }
-    write(b"\n");
+    write(to, b"\n");
 }

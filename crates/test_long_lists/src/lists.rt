@@ -11,7 +11,7 @@ use crate::{answers, given};
 use encode::{data, extendedquery};
 use protocol::Encoded;
 use protocol::kinds::{MOST_SIGNED, MOST_UNSIGNED};
-use test_cases::{write, write_number};
+use test_cases::{Output, write, write_number};
 
 // Room for the longest frame and seven bytes more.
 const ROOM: usize = 262160;
@@ -26,13 +26,13 @@ enum Which {
     Types,
 }
 
-fn write_name(which: Which) {
+fn write_name(to: &mut Output, which: Which) {
     match which {
-        Which::TypeOids => write(b"Parse type_oids"),
-        Which::ParameterFormatCodes => write(b"Bind parameter_format_codes"),
-        Which::Parameters => write(b"Bind parameters"),
-        Which::ResultColumnFormatCodes => write(b"Bind result_column_format_codes"),
-        Which::Types => write(b"ParameterDescription types"),
+        Which::TypeOids => write(to, b"Parse type_oids"),
+        Which::ParameterFormatCodes => write(to, b"Bind parameter_format_codes"),
+        Which::Parameters => write(to, b"Bind parameters"),
+        Which::ResultColumnFormatCodes => write(to, b"Bind result_column_format_codes"),
+        Which::Types => write(to, b"ParameterDescription types"),
     }
 }
 
@@ -109,13 +109,13 @@ fn encode_in(
 }
 
 // The first, one in the middle, the last, and the one behind it, which there is not.
-fn write_elements(which: Which, frame: &[u8; ROOM], count: usize) {
+fn write_elements(to: &mut Output, which: Which, frame: &[u8; ROOM], count: usize) {
     let mode = mode_of(which);
     let list = number_of(which);
-    answers::write_element(mode, frame, list, 0);
-    answers::write_element(mode, frame, list, count / 2);
-    answers::write_element(mode, frame, list, std::num::wrapping_sub_usize(count, 1));
-    answers::write_element(mode, frame, list, count);
+    answers::write_element(to, mode, frame, list, 0);
+    answers::write_element(to, mode, frame, list, count / 2);
+    answers::write_element(to, mode, frame, list, std::num::wrapping_sub_usize(count, 1));
+    answers::write_element(to, mode, frame, list, count);
 }
 
 fn first_bytes(frame: &[u8; ROOM], size: usize) -> &[u8] {
@@ -123,30 +123,30 @@ fn first_bytes(frame: &[u8; ROOM], size: usize) -> &[u8] {
 }
 
 // The frame's first `size` bytes, as a frame that says so: its length word, whose first byte stays 0, is one less.
-fn write_cut(which: Which, frame: [u8; ROOM], size: usize) {
+fn write_cut(to: &mut Output, which: Which, frame: [u8; ROOM], size: usize) {
     let mut cut = frame;
     let length = std::num::wrapping_sub_usize(size, 1);
     cut[2] = (length / 65536 % 256) as u8;
     cut[3] = (length / 256 % 256) as u8;
     cut[4] = (length % 256) as u8;
-    write(b"cut to ");
-    write_number(size);
-    write(b": ");
-    answers::write_decoded(mode_of(which), first_bytes(&cut, size));
+    write(to, b"cut to ");
+    write_number(to, size);
+    write(to, b": ");
+    answers::write_decoded(to, mode_of(which), first_bytes(&cut, size));
 }
 
-fn write_frame(which: Which, frame: [u8; ROOM], count: usize, size: usize) {
+fn write_frame(to: &mut Output, which: Which, frame: [u8; ROOM], count: usize, size: usize) {
     let end = std::num::wrapping_sub_usize(size, bytes_behind(which));
-    write(b", count");
-    test_cases::write_hex(decode::part(&frame, count_place(which), 2));
-    write(b"\n");
-    answers::write_decoded(mode_of(which), &frame);
-    write_elements(which, &frame, count);
-    write_cut(which, frame, end);
-    write_cut(which, frame, std::num::wrapping_sub_usize(end, 1));
+    write(to, b", count");
+    test_cases::write_hex(to, decode::part(&frame, count_place(which), 2));
+    write(to, b"\n");
+    answers::write_decoded(to, mode_of(which), &frame);
+    write_elements(to, which, &frame, count);
+    write_cut(to, which, frame, end);
+    write_cut(to, which, frame, std::num::wrapping_sub_usize(end, 1));
 }
 
-fn answer(
+fn answer(to: &mut Output, 
     which: Which,
     count: usize,
     oids: &[u32; MOST_UNSIGNED],
@@ -155,36 +155,36 @@ fn answer(
 ) {
     let mut out = [given::SPARE; ROOM];
     let encoded = encode_in(which, count, oids, formats, lengths, &mut out);
-    write_name(which);
-    write(b" of ");
-    write_number(count);
-    write(b": ");
-    test_cases::write_encoded(encoded);
+    write_name(to, which);
+    write(to, b" of ");
+    write_number(to, count);
+    write(to, b": ");
+    test_cases::write_encoded(to, encoded);
     let Encoded::Done(size) = encoded else {
-        write(b"\n");
+        write(to, b"\n");
         return;
     };
-    write_frame(which, out, count, size);
+    write_frame(to, which, out, count, size);
 }
 
-fn answer_both(
+fn answer_both(to: &mut Output, 
     which: Which,
     oids: &[u32; MOST_UNSIGNED],
     formats: &[i16; MOST_UNSIGNED],
     lengths: &[i32; MOST_UNSIGNED],
 ) {
-    answer(which, MOST_SIGNED + 1, oids, formats, lengths);
-    answer(which, MOST_UNSIGNED, oids, formats, lengths);
+    answer(to, which, MOST_SIGNED + 1, oids, formats, lengths);
+    answer(to, which, MOST_UNSIGNED, oids, formats, lengths);
 }
 
-pub fn answer_each(
+pub fn answer_each(to: &mut Output, 
     oids: &[u32; MOST_UNSIGNED],
     formats: &[i16; MOST_UNSIGNED],
     lengths: &[i32; MOST_UNSIGNED],
 ) {
-    answer_both(Which::TypeOids, oids, formats, lengths);
-    answer_both(Which::ParameterFormatCodes, oids, formats, lengths);
-    answer_both(Which::Parameters, oids, formats, lengths);
-    answer_both(Which::ResultColumnFormatCodes, oids, formats, lengths);
-    answer_both(Which::Types, oids, formats, lengths);
+    answer_both(to, Which::TypeOids, oids, formats, lengths);
+    answer_both(to, Which::ParameterFormatCodes, oids, formats, lengths);
+    answer_both(to, Which::Parameters, oids, formats, lengths);
+    answer_both(to, Which::ResultColumnFormatCodes, oids, formats, lengths);
+    answer_both(to, Which::Types, oids, formats, lengths);
 }

@@ -5,7 +5,7 @@
 // A copy response has a format before its count, at 6, and its length is 7 + 2 * n; the limit of 8,192 is reached with 4,092, at 8,191.
 use crate::answers;
 use protocol::kinds::{MOST_SIGNED, MOST_UNSIGNED, SMALL};
-use test_cases::{write, write_number};
+use test_cases::{Output, write, write_number};
 
 // Room for the longest frame and one byte more.
 const ROOM: usize = 622600;
@@ -23,26 +23,26 @@ fn zeros(type_byte: u8, length: usize, count_place: usize, count: usize) -> [u8;
     out
 }
 
-fn answer(name: &[u8], type_byte: u8, length: usize, count_place: usize, count: usize) {
+fn answer(to: &mut Output, name: &[u8], type_byte: u8, length: usize, count_place: usize, count: usize) {
     let frame = zeros(type_byte, length, count_place, count);
-    write(name);
-    write(b" of ");
-    write_number(count);
-    write(b": ");
-    answers::write_decoded(1, &frame);
+    write(to, name);
+    write(to, b" of ");
+    write_number(to, count);
+    write(to, b": ");
+    answers::write_decoded(to, 1, &frame);
 }
 
 // The same bytes as a ParameterDescription, whose count is unsigned, and as a DataRow; then rows, and copy responses.
-pub fn answer_each() {
-    answer(b"ParameterDescription", b't', 131078, 5, MOST_SIGNED + 1);
-    answer(b"DataRow", b'D', 131078, 5, MOST_SIGNED + 1);
-    answer(b"ParameterDescription", b't', 262146, 5, MOST_UNSIGNED);
-    answer(b"DataRow", b'D', 262146, 5, MOST_UNSIGNED);
-    answer(b"DataRow", b'D', 131074, 5, MOST_SIGNED);
-    answer(b"RowDescription", b'T', 622598, 5, MOST_SIGNED + 1);
-    answer(b"RowDescription", b'T', 622579, 5, MOST_SIGNED);
-    answer(b"CopyInResponse", b'G', 8191, 6, 4092);
-    answer(b"CopyInResponse", b'G', SMALL as usize, 6, MOST_SIGNED + 1);
-    answer(b"CopyOutResponse", b'H', SMALL as usize, 6, MOST_SIGNED + 1);
-    answer(b"CopyBothResponse", b'W', SMALL as usize, 6, MOST_UNSIGNED);
+pub fn answer_each(to: &mut Output) {
+    answer(to, b"ParameterDescription", b't', 131078, 5, MOST_SIGNED + 1);
+    answer(to, b"DataRow", b'D', 131078, 5, MOST_SIGNED + 1);
+    answer(to, b"ParameterDescription", b't', 262146, 5, MOST_UNSIGNED);
+    answer(to, b"DataRow", b'D', 262146, 5, MOST_UNSIGNED);
+    answer(to, b"DataRow", b'D', 131074, 5, MOST_SIGNED);
+    answer(to, b"RowDescription", b'T', 622598, 5, MOST_SIGNED + 1);
+    answer(to, b"RowDescription", b'T', 622579, 5, MOST_SIGNED);
+    answer(to, b"CopyInResponse", b'G', 8191, 6, 4092);
+    answer(to, b"CopyInResponse", b'G', SMALL as usize, 6, MOST_SIGNED + 1);
+    answer(to, b"CopyOutResponse", b'H', SMALL as usize, 6, MOST_SIGNED + 1);
+    answer(to, b"CopyBothResponse", b'W', SMALL as usize, 6, MOST_UNSIGNED);
 }

@@ -5,7 +5,7 @@ use crate::{answers, given};
 use codec::{Half, Text, Value};
 use encode::extendedquery;
 use protocol::{Encoded, Span};
-use test_cases::{write, write_number};
+use test_cases::{Output, write, write_number};
 
 const COUNT: usize = 40000;
 
@@ -119,7 +119,7 @@ fn read_values(frame: &[u8], start: usize, count: usize) -> Pass {
 }
 
 // The frame by the reader, from its body on: two names, the count of formats, which is 0, and that of the values.
-fn read_frame(frame: &[u8; ROOM]) {
+fn read_frame(to: &mut Output, frame: &[u8; ROOM]) {
     let Text::Is(_, c) = reader::string_at(frame, 5) else {
         return;
     };
@@ -133,48 +133,48 @@ fn read_frame(frame: &[u8; ROOM]) {
         return;
     };
     let pass = read_values(frame, c.at, count as usize);
-    write(b"one pass: ");
-    write_number(pass.right);
-    write(b" of ");
-    write_number(count as usize);
-    write(b" values as given, ended at ");
-    write_number(pass.end);
-    write(b"\n");
+    write(to, b"one pass: ");
+    write_number(to, pass.right);
+    write(to, b" of ");
+    write_number(to, count as usize);
+    write(to, b" values as given, ended at ");
+    write_number(to, pass.end);
+    write(to, b"\n");
 }
 
 // With one byte changed, that of value 39,996, the pass tells one value less: 11 + 9,999 * 19 + 4 = 189,996.
-fn read_changed(frame: [u8; ROOM]) {
+fn read_changed(to: &mut Output, frame: [u8; ROOM]) {
     let mut changed = frame;
     changed[189996] = 0;
-    read_frame(&changed);
+    read_frame(to, &changed);
 }
 
-fn write_elements(frame: &[u8; ROOM]) {
-    answers::write_element(0, frame, 1, 0);
-    answers::write_element(0, frame, 1, 1);
-    answers::write_element(0, frame, 1, 2);
-    answers::write_element(0, frame, 1, 3);
-    answers::write_element(0, frame, 1, 39996);
-    answers::write_element(0, frame, 1, 39999);
-    answers::write_element(0, frame, 1, 40000);
+fn write_elements(to: &mut Output, frame: &[u8; ROOM]) {
+    answers::write_element(to, 0, frame, 1, 0);
+    answers::write_element(to, 0, frame, 1, 1);
+    answers::write_element(to, 0, frame, 1, 2);
+    answers::write_element(to, 0, frame, 1, 3);
+    answers::write_element(to, 0, frame, 1, 39996);
+    answers::write_element(to, 0, frame, 1, 39999);
+    answers::write_element(to, 0, frame, 1, 40000);
 }
 
 fn encode_in(lengths: &[i32; COUNT], joined: &[u8; JOINED], out: &mut [u8]) -> Encoded {
     extendedquery::bind(b"", b"", &[], lengths, joined, &[], out)
 }
 
-pub fn answer() {
+pub fn answer(to: &mut Output) {
     let mut lengths = [0i32; COUNT];
     let mut joined = [0u8; JOINED];
     let mut out = [given::SPARE; ROOM];
     fill(&mut lengths, &mut joined);
-    write(b"Bind of 40000 values: ");
-    test_cases::write_encoded(encode_in(&lengths, &joined, &mut out));
-    write(b"\nfirst");
-    test_cases::write_hex(decode::part(&out, 0, 30));
-    write(b"\n");
-    answers::write_decoded(0, &out);
-    write_elements(&out);
-    read_frame(&out);
-    read_changed(out);
+    write(to, b"Bind of 40000 values: ");
+    test_cases::write_encoded(to, encode_in(&lengths, &joined, &mut out));
+    write(to, b"\nfirst");
+    test_cases::write_hex(to, decode::part(&out, 0, 30));
+    write(to, b"\n");
+    answers::write_decoded(to, 0, &out);
+    write_elements(to, &out);
+    read_frame(to, &out);
+    read_changed(to, out);
 }

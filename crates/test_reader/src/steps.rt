@@ -2,93 +2,94 @@
 use crate::through;
 use codec::{Byte, Cursor, Half, Text, Value, Word};
 use protocol::Span;
+use test_cases::Output;
 
-fn write_next(next: Cursor) {
-    test_cases::write(b" next ");
-    test_cases::write_number(next.at);
+fn write_next(to: &mut Output, next: Cursor) {
+    test_cases::write(to, b" next ");
+    test_cases::write_number(to, next.at);
 }
 
-fn write_part(part: Span, next: Cursor) {
-    test_cases::write_span(part);
-    write_next(next);
+fn write_part(to: &mut Output, part: Span, next: Cursor) {
+    test_cases::write_span(to, part);
+    write_next(to, next);
 }
 
-fn write_read(n: usize, next: Cursor) {
-    test_cases::write_number(n);
-    write_next(next);
+fn write_read(to: &mut Output, n: usize, next: Cursor) {
+    test_cases::write_number(to, n);
+    write_next(to, next);
 }
 
-fn write_byte(byte: Byte) {
+fn write_byte(to: &mut Output, byte: Byte) {
     match byte {
-        Byte::Is(n, next) => write_read(n as usize, next),
-        Byte::Cut => test_cases::write(b"cut"),
+        Byte::Is(n, next) => write_read(to, n as usize, next),
+        Byte::Cut => test_cases::write(to, b"cut"),
     }
 }
 
-fn write_half(half: Half) {
+fn write_half(to: &mut Output, half: Half) {
     match half {
-        Half::Is(n, next) => write_read(n as usize, next),
-        Half::Cut => test_cases::write(b"cut"),
+        Half::Is(n, next) => write_read(to, n as usize, next),
+        Half::Cut => test_cases::write(to, b"cut"),
     }
 }
 
-fn write_word(word: Word) {
+fn write_word(to: &mut Output, word: Word) {
     match word {
-        Word::Is(n, next) => write_read(n as usize, next),
-        Word::Cut => test_cases::write(b"cut"),
+        Word::Is(n, next) => write_read(to, n as usize, next),
+        Word::Cut => test_cases::write(to, b"cut"),
     }
 }
 
-fn write_string(string: Text) {
+fn write_string(to: &mut Output, string: Text) {
     match string {
-        Text::Is(part, next) => write_part(part, next),
-        Text::Cut => test_cases::write(b"cut"),
+        Text::Is(part, next) => write_part(to, part, next),
+        Text::Cut => test_cases::write(to, b"cut"),
     }
 }
 
-fn write_value(value: Value) {
+fn write_value(to: &mut Output, value: Value) {
     match value {
-        Value::Is(part, next) => write_part(part, next),
+        Value::Is(part, next) => write_part(to, part, next),
         Value::Null(next) => {
-            test_cases::write(b"null");
-            write_next(next);
+            test_cases::write(to, b"null");
+            write_next(to, next);
         }
-        Value::Cut => test_cases::write(b"cut"),
-        Value::BelowNull => test_cases::write(b"below null"),
+        Value::Cut => test_cases::write(to, b"cut"),
+        Value::BelowNull => test_cases::write(to, b"below null"),
     }
 }
 
-fn write_by_reader() {
-    test_cases::write(b"; by a reader ");
+fn write_by_reader(to: &mut Output) {
+    test_cases::write(to, b"; by a reader ");
 }
 
-pub fn answer(name: u8, frame: &[u8], at: usize) {
+pub fn answer(to: &mut Output, name: u8, frame: &[u8], at: usize) {
     match name {
         b'b' => {
-            write_byte(reader::byte_at(frame, at));
-            write_by_reader();
-            write_byte(through::byte_through(frame, at));
+            write_byte(to, reader::byte_at(frame, at));
+            write_by_reader(to);
+            write_byte(to, through::byte_through(frame, at));
         }
         b'h' => {
-            write_half(reader::half_at(frame, at));
-            write_by_reader();
-            write_half(through::half_through(frame, at));
+            write_half(to, reader::half_at(frame, at));
+            write_by_reader(to);
+            write_half(to, through::half_through(frame, at));
         }
         b'w' => {
-            write_word(reader::word_at(frame, at));
-            write_by_reader();
-            write_word(through::word_through(frame, at));
+            write_word(to, reader::word_at(frame, at));
+            write_by_reader(to);
+            write_word(to, through::word_through(frame, at));
         }
         b's' => {
-            write_string(reader::string_at(frame, at));
-            write_by_reader();
-            write_string(through::string_through(frame, at));
+            write_string(to, reader::string_at(frame, at));
+            write_by_reader(to);
+            write_string(to, through::string_through(frame, at));
         }
         b'v' => {
-            write_value(reader::value_at(frame, at));
-            write_by_reader();
-            write_value(through::value_through(frame, at));
+            write_value(to, reader::value_at(frame, at));
+            write_by_reader(to);
+            write_value(to, through::value_through(frame, at));
         }
-        _ => test_cases::write(b"malformed case"),
+        _ => test_cases::write(to, b"malformed case"),
     }
 }

@@ -1,4 +1,4 @@
-// By a frame reader: it is made over the frame and sent to a place, and reads there. What calls these needs no walk by hand.
+// By a frame reader: it is made over the frame and sent to a place, and reads there.
 ghost use Rattle.std.specs.Prelude.{◌≡◌};
 ghost use Rattle.protocol.specs.Reading.{read_number, read_text, read_value};
 ghost use Rattle.codec.specs.CursorRead.{byte_read, half_read, text_read, value_read, word_read};

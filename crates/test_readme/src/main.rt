@@ -1,92 +1,83 @@
 // How to call the library: README shows this code, and the gate runs it.
 #![tactic(auto)]
 
-use libc::STDOUT_FILENO;
 use protocol::{Decoded, Element, Encoded, Message};
 use row_builder::Built;
+use std::io;
 
-fn say(words: &[u8]) {
-    io::write_all(STDOUT_FILENO, words);
+fn say(rt: &impl Print, words: &[u8]) -> io::Result<()> {
+    rt.write_all(words)
 }
 
-fn say_refused(number: u8, place: usize) {
-    say(b"refused ");
-    io::print_decimal(STDOUT_FILENO, number as u64);
-    say(b" at ");
-    io::print_decimal(STDOUT_FILENO, place as u64);
-    say(b"\n");
+fn say_refused(rt: &impl Print, number: u8, place: usize) -> io::Result<()> {
+    println!(rt; "refused {number} at {place}")
 }
 
 // Prints the query of the Parse at the buffer's start.
-fn print_query(buf: &[u8]) {
+fn print_query(rt: &impl Print, buf: &[u8]) -> io::Result<()> {
     match decode::decode(0, buf) {
         Decoded::Record(message, _) => {
             let Message::Parse(parse) = message else {
-                say(b"another message\n");
-                return;
+                return say(rt, b"another message\n");
             };
             let query = parse.query;
-            say(decode::part(buf, query.start, query.len));
-            say(b"\n");
+            say(rt, decode::part(buf, query.start, query.len))?;
+            say(rt, b"\n")
         }
-        Decoded::NeedMore => say(b"the frame's end has not arrived\n"),
-        Decoded::Refused(number, place) => say_refused(number, place),
+        Decoded::NeedMore => say(rt, b"the frame's end has not arrived\n"),
+        Decoded::Refused(number, place) => say_refused(rt, number, place),
     }
 }
 
 // Prints a value of the DataRow at the buffer's start.
-fn print_value(buf: &[u8], number: usize) {
-    say(element::value_or(1, buf, 0, number, b"NULL"));
-    say(b"\n");
+fn print_value(rt: &impl Print, buf: &[u8], number: usize) -> io::Result<()> {
+    say(rt, element::value_or(1, buf, 0, number, b"NULL"))?;
+    say(rt, b"\n")
 }
 
 // Prints the first oid of the Parse at the buffer's start.
-fn print_oid(buf: &[u8]) {
+fn print_oid(rt: &impl Print, buf: &[u8]) -> io::Result<()> {
     let Element::Oid(oid) = element::element(0, buf, 0, 0) else {
-        say(b"no such element\n");
-        return;
+        return say(rt, b"no such element\n");
     };
-    io::print_decimal(STDOUT_FILENO, oid as u64);
-    say(b"\n");
+    println!(rt; "{oid}")
 }
 
 // Writes a Parse into a buffer and reads it back.
-fn write_and_read(query: &[u8]) {
+fn write_and_read(rt: &impl Print, query: &[u8]) -> io::Result<()> {
     let mut out = [0u8; 64];
     match encode::extendedquery::parse(b"", query, &[23], &mut out) {
-        Encoded::Done(_) => print_query(&out),
-        Encoded::Refused(number, place) => say_refused(number, place),
+        Encoded::Done(_) => print_query(rt, &out),
+        Encoded::Refused(number, place) => say_refused(rt, number, place),
     }
 }
 
 // Builds a row of one value in a room of 32 bytes, and prints the size of its frame and the value.
-fn build_row(value: &[u8]) {
+fn build_row(rt: &impl Print, value: &[u8]) -> io::Result<()> {
     let mut room = [0u8; 32];
     let Built::Is(row) = row_builder::begin(&mut room) else {
-        say(b"no room for a row\n");
-        return;
+        return say(rt, b"no room for a row\n");
     };
     match row_builder::append(row, &mut room, value) {
         Built::Is(next) => {
-            io::print_decimal(STDOUT_FILENO, next.size as u64);
-            say(b" bytes\n");
-            print_value(&room, 0);
+            println!(rt; "{} bytes", next.size)?;
+            print_value(rt, &room, 0)
         }
-        Built::Refused(number, place) => say_refused(number, place),
+        Built::Refused(number, place) => say_refused(rt, number, place),
     }
 }
 
-fn main() {
-    print_query(b"P\0\0\0\x10\0SELECT 1\0\0\0");
-    print_query(b"P\0\0\0\x10\0SELE");
-    print_query(b"P\0\0\0\x10\0SELECT 1\0\xFF\xFF");
-    print_query(b"S\0\0\0\x04");
-    print_value(b"D\0\0\0\x10\0\x02\0\0\0\x02ab\xFF\xFF\xFF\xFF", 0);
-    print_value(b"D\0\0\0\x10\0\x02\0\0\0\x02ab\xFF\xFF\xFF\xFF", 1);
-    print_oid(b"P\0\0\0\x0C\0\0\0\x01\0\0\0\x17");
-    print_oid(b"S\0\0\0\x04");
-    write_and_read(b"SELECT 2");
-    write_and_read(b"a\0b");
-    build_row(b"4711");
-    build_row(b"pages of a whole month");
+fn main(rt: HostRuntime) -> io::Result<()> {
+    print_query(&rt, b"P\0\0\0\x10\0SELECT 1\0\0\0")?;
+    print_query(&rt, b"P\0\0\0\x10\0SELE")?;
+    print_query(&rt, b"P\0\0\0\x10\0SELECT 1\0\xFF\xFF")?;
+    print_query(&rt, b"S\0\0\0\x04")?;
+    print_value(&rt, b"D\0\0\0\x10\0\x02\0\0\0\x02ab\xFF\xFF\xFF\xFF", 0)?;
+    print_value(&rt, b"D\0\0\0\x10\0\x02\0\0\0\x02ab\xFF\xFF\xFF\xFF", 1)?;
+    print_oid(&rt, b"P\0\0\0\x0C\0\0\0\x01\0\0\0\x17")?;
+    print_oid(&rt, b"S\0\0\0\x04")?;
+    write_and_read(&rt, b"SELECT 2")?;
+    write_and_read(&rt, b"a\0b")?;
+    build_row(&rt, b"4711")?;
+    build_row(&rt, b"pages of a whole month")
 }

@@ -5,8 +5,8 @@
 mod case;
 
 use case::{BOTH, Case, ROOM, ROW};
-use libc::STDIN_FILENO;
-use test_cases::{write, write_number};
+use std::io;
+use test_cases::{Output, write, write_number};
 
 // How many pieces of 65,536 letters are read: more than the list has.
 const PIECES: usize = 32;
@@ -51,10 +51,10 @@ fn holds(case: Case, frame: &[u8; ROOM], expected: &[usize; BOTH]) -> bool {
     case::is_whole(case) && are_equal(&got, expected) && agrees_with_rust(case, &got, expected)
 }
 
-fn report(line: usize) {
-    write(b"line ");
-    write_number(line);
-    write(b" is wrong\n");
+fn report(to: &mut Output, line: usize) {
+    write(to, b"line ");
+    write_number(to, line);
+    write(to, b" is wrong\n");
 }
 
 // One more. There are fewer lines than letters.
@@ -71,7 +71,7 @@ struct Tally {
 }
 
 // A whole line.
-fn with_line(tally: Tally, frame: &[u8; ROOM], expected: &mut [usize; BOTH]) -> Tally {
+fn with_line(to: &mut Output, tally: Tally, frame: &[u8; ROOM], expected: &mut [usize; BOTH]) -> Tally {
     let lines = next(tally.lines);
     let read = case::with_number(tally.case, expected);
     let case = case::start();
@@ -79,19 +79,19 @@ fn with_line(tally: Tally, frame: &[u8; ROOM], expected: &mut [usize; BOTH]) -> 
         let wrong = tally.wrong;
         return Tally { case, lines, wrong };
     }
-    report(lines);
+    report(to, lines);
     let wrong = next(tally.wrong);
     Tally { case, lines, wrong }
 }
 
-fn with_letter(
+fn with_letter(to: &mut Output, 
     tally: Tally,
     letter: u8,
     frame: &mut [u8; ROOM],
     expected: &mut [usize; BOTH],
 ) -> Tally {
     if letter == b'\n' {
-        let tally = with_line(tally, frame, expected);
+        let tally = with_line(to, tally, frame, expected);
         *expected = [0usize; BOTH];
         return tally;
     }
@@ -101,7 +101,7 @@ fn with_letter(
     Tally { case, lines, wrong }
 }
 
-fn with_letters(
+fn with_letters(to: &mut Output, 
     tally: Tally,
     letters: &[u8],
     frame: &mut [u8; ROOM],
@@ -109,19 +109,25 @@ fn with_letters(
 ) -> Tally {
     let mut tally = tally;
     for i in 0..letters.len() {
-        tally = with_letter(tally, letters[i], frame, expected);
+        tally = with_letter(to, tally, letters[i], frame, expected);
     }
     tally
 }
 
 // The next piece of the list, which is empty behind its end.
-fn with_piece(tally: Tally, frame: &mut [u8; ROOM], expected: &mut [usize; BOTH]) -> Tally {
-    let mut input = io::large_buffer();
-    let count = io::read_full(STDIN_FILENO, &mut input);
-    with_letters(tally, &input[..count], frame, expected)
+fn with_piece(
+    to: &mut Output,
+    rt: HostRuntime,
+    tally: Tally,
+    frame: &mut [u8; ROOM],
+    expected: &mut [usize; BOTH],
+) -> io::Result<Tally> {
+    let mut input = [0u8; 65536];
+    let count = test_cases::read_input(rt, &mut input)?;
+    Ok(with_letters(to, tally, &input[..count], frame, expected))
 }
 
-fn main() {
+fn replay(to: &mut Output, rt: HostRuntime) -> io::Result<()> {
     let mut frame = [0u8; ROOM];
     let mut expected = [0usize; BOTH];
     let case = case::start();
@@ -131,10 +137,18 @@ fn main() {
         wrong: 0,
     };
     for _ in 0..PIECES {
-        tally = with_piece(tally, &mut frame, &mut expected);
+        tally = with_piece(to, rt, tally, &mut frame, &mut expected)?;
     }
-    write_number(tally.lines);
-    write(b" cases, ");
-    write_number(tally.wrong);
-    write(b" wrong\n");
+    write_number(to, tally.lines);
+    write(to, b" cases, ");
+    write_number(to, tally.wrong);
+    write(to, b" wrong\n");
+    Ok(())
+}
+
+fn main(rt: HostRuntime) -> io::Result<()> {
+    let mut to = Output::new(rt)?;
+    let result = replay(&mut to, rt);
+    to.finish()?;
+    result
 }

@@ -3,7 +3,7 @@
 use crate::calls;
 use row_builder::Row;
 use test_cases::head::{Head, read_head};
-use test_cases::{Bytes, write};
+use test_cases::{Bytes, Output, write};
 
 // The longest room.
 const ROOM: usize = 64;
@@ -20,8 +20,8 @@ fn kept_of(lent: usize, columns: usize, size: usize) -> Kept {
     Kept { lent, row }
 }
 
-fn malformed(kept: Kept) -> Kept {
-    write(b"malformed case");
+fn malformed(to: &mut Output, kept: Kept) -> Kept {
+    write(to, b"malformed case");
     kept
 }
 
@@ -46,7 +46,7 @@ fn put_bytes(room: &mut [u8], place: usize, bytes: &[u8]) {
 }
 
 // A change between two calls, by the first letter of its name.
-fn change(name: u8, head: Head, kept: Kept, room: &mut [u8], bytes: &[u8]) -> Kept {
+fn change(to: &mut Output, name: u8, head: Head, kept: Kept, room: &mut [u8], bytes: &[u8]) -> Kept {
     let row = kept.row;
     match name {
         b'r' => new_room(head.second, room),
@@ -56,7 +56,7 @@ fn change(name: u8, head: Head, kept: Kept, room: &mut [u8], bytes: &[u8]) -> Ke
             put_bytes(room, head.second, bytes);
             kept
         }
-        _ => malformed(kept),
+        _ => malformed(to, kept),
     }
 }
 
@@ -68,76 +68,76 @@ fn is_call(name: u8) -> bool {
 }
 
 // A call, by the first letter of its name.
-fn call(name: u8, row: Row, room: &mut [u8], value: &[u8]) -> Row {
+fn call(to: &mut Output, name: u8, row: Row, room: &mut [u8], value: &[u8]) -> Row {
     match name {
-        b'b' => calls::begin(row, room),
-        b'v' => calls::append(row, room, value),
-        b'n' => calls::append_null(row, room),
-        b'd' => calls::drop_last(row, room),
-        _ => calls::finish(row, room),
+        b'b' => calls::begin(to, row, room),
+        b'v' => calls::append(to, row, room, value),
+        b'n' => calls::append_null(to, row, room),
+        b'd' => calls::drop_last(to, row, room),
+        _ => calls::finish(to, row, room),
     }
 }
 
 // The same on what is lent of the room.
-fn call_in(name: u8, kept: Kept, room: &mut [u8], value: &[u8]) -> Kept {
+fn call_in(to: &mut Output, name: u8, kept: Kept, room: &mut [u8], value: &[u8]) -> Kept {
     let lent = kept.lent;
     if room.len() < lent {
-        return malformed(kept);
+        return malformed(to, kept);
     }
-    let row = call(name, kept.row, &mut room[0..lent], value);
-    write(b"; ");
+    let row = call(to, name, kept.row, &mut room[0..lent], value);
+    write(to, b"; ");
     Kept { lent, row }
 }
 
-fn answer(name: u8, head: Head, kept: Kept, room: &mut [u8], bytes: &[u8]) -> Kept {
+fn answer(to: &mut Output, name: u8, head: Head, kept: Kept, room: &mut [u8], bytes: &[u8]) -> Kept {
     if is_call(name) {
-        return call_in(name, kept, room, bytes);
+        return call_in(to, name, kept, room, bytes);
     }
-    change(name, head, kept, room, bytes)
+    change(to, name, head, kept, room, bytes)
 }
 
-fn answer_case(name: u8, line: &[u8], kept: Kept, room: &mut [u8]) -> Kept {
+fn answer_case(to: &mut Output, name: u8, line: &[u8], kept: Kept, room: &mut [u8]) -> Kept {
     let head = read_head(line);
     let end = head.end;
     let mut bytes = [0u8; ROOM];
     match test_cases::read_bytes(&line[end..], &mut bytes) {
-        Bytes::Of(count) => answer(name, head, kept, room, decode::part(&bytes, 0, count)),
-        Bytes::Malformed => malformed(kept),
+        Bytes::Of(count) => answer(to, name, head, kept, room, decode::part(&bytes, 0, count)),
+        Bytes::Malformed => malformed(to, kept),
     }
 }
 
-fn write_room(lent: usize, room: &[u8]) {
-    write(b"room");
-    test_cases::write_hex(decode::part(room, 0, lent));
+fn write_room(to: &mut Output, lent: usize, room: &[u8]) {
+    write(to, b"room");
+    test_cases::write_hex(to, decode::part(room, 0, lent));
 }
 
 // Every line is written back; what is no comment, with its answer and the room.
-fn answer_line(line: &[u8], kept: Kept, room: &mut [u8]) -> Kept {
+fn answer_line(to: &mut Output, line: &[u8], kept: Kept, room: &mut [u8]) -> Kept {
     let name = if line.len() == 0 { 0 } else { line[0] };
-    write(line);
+    write(to, line);
     if name == b'#' {
-        write(b"\n");
+        write(to, b"\n");
         return kept;
     }
-    write(b" = ");
-    let next = answer_case(name, line, kept, room);
-    write_room(next.lent, room);
-    write(b"\n");
+    write(to, b" = ");
+    let next = answer_case(to, name, line, kept, room);
+    write_room(to, next.lent, room);
+    write(to, b"\n");
     next
 }
 
-fn answer_lines(input: &[u8], room: &mut [u8]) {
+fn answer_lines(to: &mut Output, input: &[u8], room: &mut [u8]) {
     let mut kept = kept_of(0, 0, 0);
     let mut start: usize = 0;
     while start < input.len() {
         let end = test_cases::line_end(input, start);
-        kept = answer_line(&input[start..end], kept, room);
+        kept = answer_line(to, &input[start..end], kept, room);
         start = end + 1;
     }
 }
 
 // No history uses a room that another left: each begins with a new one.
-pub fn answer_each(input: &[u8]) {
+pub fn answer_each(to: &mut Output, input: &[u8]) {
     let mut room = [calls::SPARE; ROOM];
-    answer_lines(input, &mut room);
+    answer_lines(to, input, &mut room);
 }

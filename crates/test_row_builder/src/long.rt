@@ -7,7 +7,7 @@ use crate::calls;
 use crate::calls::SPARE;
 use protocol::kinds::LARGE_FRAME;
 use row_builder::Row;
-use test_cases::{write, write_number};
+use test_cases::{Output, write, write_number};
 
 // Room for the longest frame and 15 bytes more.
 pub const ROOM: usize = LARGE_FRAME + 15;
@@ -31,63 +31,63 @@ fn spare_in(room: &[u8]) -> usize {
 }
 
 // `most` bytes from a place on; where the room ends before, `least`.
-fn write_part(room: &[u8], start: usize, most: usize, least: usize) {
+fn write_part(to: &mut Output, room: &[u8], start: usize, most: usize, least: usize) {
     let part = decode::part(room, start, most);
     if part.len() == 0 {
-        test_cases::write_hex(decode::part(room, start, least));
+        test_cases::write_hex(to, decode::part(room, start, least));
         return;
     }
-    test_cases::write_hex(part);
+    test_cases::write_hex(to, part);
 }
 
-fn write_room(row: Row, room: &[u8]) {
-    write(b"; first");
-    write_part(room, 0, 12, 7);
-    write(b"; end");
-    write_part(room, std::num::wrapping_sub_usize(row.size, 4), 8, 4);
-    write(b"; spare ");
-    write_number(spare_in(room));
-    write(b"\n");
+fn write_room(to: &mut Output, row: Row, room: &[u8]) {
+    write(to, b"; first");
+    write_part(to, room, 0, 12, 7);
+    write(to, b"; end");
+    write_part(to, room, std::num::wrapping_sub_usize(row.size, 4), 8, 4);
+    write(to, b"; spare ");
+    write_number(to, spare_in(room));
+    write(to, b"\n");
 }
 
-pub fn begin(room: &mut [u8]) -> Row {
-    write(b"begin: ");
+pub fn begin(to: &mut Output, room: &mut [u8]) -> Row {
+    write(to, b"begin: ");
     let row = Row {
         columns: 0,
         size: 0,
     };
-    let next = calls::begin(row, room);
-    write_room(next, room);
+    let next = calls::begin(to, row, room);
+    write_room(to, next, room);
     next
 }
 
 // A value of so many letters a.
-pub fn append(row: Row, room: &mut [u8], count: usize) -> Row {
+pub fn append(to: &mut Output, row: Row, room: &mut [u8], count: usize) -> Row {
     let letters = full(b'a');
-    write(b"value of ");
-    write_number(count);
-    write(b": ");
-    let next = calls::append(row, room, decode::part(&letters, 0, count));
-    write_room(next, room);
+    write(to, b"value of ");
+    write_number(to, count);
+    write(to, b": ");
+    let next = calls::append(to, row, room, decode::part(&letters, 0, count));
+    write_room(to, next, room);
     next
 }
 
-pub fn append_null(row: Row, room: &mut [u8]) -> Row {
-    write(b"null: ");
-    let next = calls::append_null(row, room);
-    write_room(next, room);
+pub fn append_null(to: &mut Output, row: Row, room: &mut [u8]) -> Row {
+    write(to, b"null: ");
+    let next = calls::append_null(to, row, room);
+    write_room(to, next, room);
     next
 }
 
-pub fn drop_last(row: Row, room: &mut [u8]) -> Row {
-    write(b"drop: ");
-    let next = calls::drop_last(row, room);
-    write_room(next, room);
+pub fn drop_last(to: &mut Output, row: Row, room: &mut [u8]) -> Row {
+    write(to, b"drop: ");
+    let next = calls::drop_last(to, row, room);
+    write_room(to, next, room);
     next
 }
 
-pub fn finish(row: Row, room: &[u8]) {
-    write(b"finish: ");
-    let kept = calls::finish(row, room);
-    write_room(kept, room);
+pub fn finish(to: &mut Output, row: Row, room: &[u8]) {
+    write(to, b"finish: ");
+    let kept = calls::finish(to, row, room);
+    write_room(to, kept, room);
 }

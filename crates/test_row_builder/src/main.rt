@@ -8,12 +8,15 @@ mod history;
 mod limit;
 mod long;
 
-use libc::STDIN_FILENO;
+use std::io;
+use test_cases::Output;
 
-fn main() {
-    let mut input = io::large_buffer();
-    let count = io::read_full(STDIN_FILENO, &mut input);
-    history::answer_each(&input[..count]);
-    limit::answer_each();
-    columns::answer_each();
+fn main(rt: HostRuntime) -> io::Result<()> {
+    let mut input = [0u8; 65536];
+    let count = test_cases::read_input(rt, &mut input)?;
+    let mut to = Output::new(rt)?;
+    history::answer_each(&mut to, &input[..count]);
+    limit::answer_each(&mut to);
+    columns::answer_each(&mut to);
+    to.finish()
 }
