@@ -4,18 +4,21 @@ use Prim.Native.Nat.{ℕ, zero, suc}
 use mathlib.Core.Bool.{Bool, true, false, not, cond, ◌||◌}
 use mathlib.Core.List.{List, [], ◌∷◌}
 use mathlib.Core.Option.{Option, some, none}
-use mathlib.Core.Path.{◌≡◌}
+use mathlib.Core.Path.{◌≡◌, refl}
 use denote.Enum.Declared.{tag_of}
 use lib.Dec.{T}
 use lib.ListN.{length}
 use mir.Val.{has_key}
 use types.Run.{OneOf, miss}
+use Rattle.protocol.specs.declared.Message.TheVariants as M
 use Rattle.protocol.specs.declared.Message.{Message}
+use Rattle.protocol.specs.declared.response.GssEncResponse.TheVariants as Gss
+use Rattle.protocol.specs.declared.response.SslResponse.TheVariants as Ssl
 use Rattle.protocol.specs.Each.{Each}
 use Rattle.protocol.specs.Fields.{Slot}
-use Rattle.protocol.specs.Kinds.{Kind, Mode, modes, the_table}
+use Rattle.protocol.specs.Kinds.{Kind, Mode, modes, find, mode_of, kind_in, the_table}
 use Rattle.protocol.specs.Rules.{rules_of}
-use Rattle.protocol.specs.Views.{shown, view, rows, numbered}
+use Rattle.protocol.specs.Views.{Shown, IsShown, shown, view, rows, numbered}
 use Rattle.protocol.proofs.Find.{All, told_row}
 use Rattle.protocol.specs.contracts.Message as Msg
 
@@ -27,15 +30,27 @@ pub viewed : All (λ (m : Mode). All Viewed m.kinds) modes
 unfolding the_table view
 viewed = search tt depth 60 fits 5000
 
+-- the law of each message's view
+pub is_shown : (m : Message) → IsShown m (shown m)
+unfolding shown the_table find mode_of kind_in
+is_shown (M.SslResponse Ssl.Accept) = record { known = refl; row = refl; back = refl }
+is_shown (M.SslResponse Ssl.Refuse) = record { known = refl; row = refl; back = refl }
+is_shown (M.GssEncResponse Gss.Accept) = record { known = refl; row = refl; back = refl }
+is_shown (M.GssEncResponse Gss.Refuse) = record { known = refl; row = refl; back = refl }
+is_shown m = record { known = refl; row = refl; back = refl }
+
 -- a message is made by its row
 pub made : (m : Message) → (view m).kind.message (view m).slots ≡ m
 unfolding view
-made m = (shown m).back
+made m = (is_shown m).back
 
 -- what holds of each row holds of a message's
 pub each_row : (P : Kind → Type 0) → All (λ (m : Mode). All P m.kinds) modes → (m : Message) → P (view m).kind
 unfolding view
-each_row P h m = let r = shown m in told_row P h (rules_of r.mode.mode) r.view.kind.tag r.known r.row
+each_row P h m =
+    let r = shown m in
+    let is = is_shown m in
+    told_row P h (rules_of r.mode.mode) r.view.kind.tag is.known is.row
 
 -- ---- the last arm of a `match` on a message, which is told the places of the variants that are left
 
