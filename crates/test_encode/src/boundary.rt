@@ -43,9 +43,7 @@ pub fn listed(
 }
 
 pub fn row_description(fields: &[FieldDescription], run: &[u8], out: &mut [u8]) -> Encoded {
-    encoded(host::encoding::tusweram_encode_row_description(
-        fields, run, out,
-    ))
+    encoded(host::encoding::tusweram_encode_row_description(fields, run, out))
 }
 
 fn is_done(encoded: Encoded, size: usize) -> bool {

@@ -22,7 +22,13 @@ fn spare_at_end(out: &[u8]) -> usize {
     count
 }
 
-fn write_in(to: &mut Output, codes: &[u8; COUNT], lengths: &[u32; COUNT], joined: &[u8; COUNT], out: &mut [u8]) {
+fn write_in(
+    to: &mut Output,
+    codes: &[u8; COUNT],
+    lengths: &[u32; COUNT],
+    joined: &[u8; COUNT],
+    out: &mut [u8],
+) {
     let encoded = encode::response::error_response(codes, lengths, joined, out);
     write(to, b"an output of ");
     write_number(to, out.len());
@@ -34,7 +40,13 @@ fn write_in(to: &mut Output, codes: &[u8; COUNT], lengths: &[u32; COUNT], joined
 }
 
 // The error, written into an output of `size` bytes.
-fn write_of(to: &mut Output, codes: &[u8; COUNT], lengths: &[u32; COUNT], joined: &[u8; COUNT], size: usize) {
+fn write_of(
+    to: &mut Output,
+    codes: &[u8; COUNT],
+    lengths: &[u32; COUNT],
+    joined: &[u8; COUNT],
+    size: usize,
+) {
     let mut out = fields::spare();
     if size <= ROOM {
         write_in(to, codes, lengths, joined, &mut out[0..size]);

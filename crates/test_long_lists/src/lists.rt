@@ -114,7 +114,13 @@ fn write_elements(to: &mut Output, which: Which, frame: &[u8; ROOM], count: usiz
     let list = number_of(which);
     answers::write_element(to, mode, frame, list, 0);
     answers::write_element(to, mode, frame, list, count / 2);
-    answers::write_element(to, mode, frame, list, std::num::wrapping_sub_usize(count, 1));
+    answers::write_element(
+        to,
+        mode,
+        frame,
+        list,
+        std::num::wrapping_sub_usize(count, 1),
+    );
     answers::write_element(to, mode, frame, list, count);
 }
 
@@ -146,7 +152,8 @@ fn write_frame(to: &mut Output, which: Which, frame: [u8; ROOM], count: usize, s
     write_cut(to, which, frame, std::num::wrapping_sub_usize(end, 1));
 }
 
-fn answer(to: &mut Output, 
+fn answer(
+    to: &mut Output,
     which: Which,
     count: usize,
     oids: &[u32; MOST_UNSIGNED],
@@ -167,7 +174,8 @@ fn answer(to: &mut Output,
     write_frame(to, which, out, count, size);
 }
 
-fn answer_both(to: &mut Output, 
+fn answer_both(
+    to: &mut Output,
     which: Which,
     oids: &[u32; MOST_UNSIGNED],
     formats: &[i16; MOST_UNSIGNED],
@@ -177,7 +185,8 @@ fn answer_both(to: &mut Output,
     answer(to, which, MOST_UNSIGNED, oids, formats, lengths);
 }
 
-pub fn answer_each(to: &mut Output, 
+pub fn answer_each(
+    to: &mut Output,
     oids: &[u32; MOST_UNSIGNED],
     formats: &[i16; MOST_UNSIGNED],
     lengths: &[i32; MOST_UNSIGNED],

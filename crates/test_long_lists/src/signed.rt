@@ -23,7 +23,14 @@ fn zeros(type_byte: u8, length: usize, count_place: usize, count: usize) -> [u8;
     out
 }
 
-fn answer(to: &mut Output, name: &[u8], type_byte: u8, length: usize, count_place: usize, count: usize) {
+fn answer(
+    to: &mut Output,
+    name: &[u8],
+    type_byte: u8,
+    length: usize,
+    count_place: usize,
+    count: usize,
+) {
     let frame = zeros(type_byte, length, count_place, count);
     write(to, name);
     write(to, b" of ");
@@ -34,7 +41,14 @@ fn answer(to: &mut Output, name: &[u8], type_byte: u8, length: usize, count_plac
 
 // The same bytes as a ParameterDescription, whose count is unsigned, and as a DataRow; then rows, and copy responses.
 pub fn answer_each(to: &mut Output) {
-    answer(to, b"ParameterDescription", b't', 131078, 5, MOST_SIGNED + 1);
+    answer(
+        to,
+        b"ParameterDescription",
+        b't',
+        131078,
+        5,
+        MOST_SIGNED + 1,
+    );
     answer(to, b"DataRow", b'D', 131078, 5, MOST_SIGNED + 1);
     answer(to, b"ParameterDescription", b't', 262146, 5, MOST_UNSIGNED);
     answer(to, b"DataRow", b'D', 262146, 5, MOST_UNSIGNED);
@@ -42,7 +56,28 @@ pub fn answer_each(to: &mut Output) {
     answer(to, b"RowDescription", b'T', 622598, 5, MOST_SIGNED + 1);
     answer(to, b"RowDescription", b'T', 622579, 5, MOST_SIGNED);
     answer(to, b"CopyInResponse", b'G', 8191, 6, 4092);
-    answer(to, b"CopyInResponse", b'G', SMALL as usize, 6, MOST_SIGNED + 1);
-    answer(to, b"CopyOutResponse", b'H', SMALL as usize, 6, MOST_SIGNED + 1);
-    answer(to, b"CopyBothResponse", b'W', SMALL as usize, 6, MOST_UNSIGNED);
+    answer(
+        to,
+        b"CopyInResponse",
+        b'G',
+        SMALL as usize,
+        6,
+        MOST_SIGNED + 1,
+    );
+    answer(
+        to,
+        b"CopyOutResponse",
+        b'H',
+        SMALL as usize,
+        6,
+        MOST_SIGNED + 1,
+    );
+    answer(
+        to,
+        b"CopyBothResponse",
+        b'W',
+        SMALL as usize,
+        6,
+        MOST_UNSIGNED,
+    );
 }

@@ -71,7 +71,12 @@ struct Tally {
 }
 
 // A whole line.
-fn with_line(to: &mut Output, tally: Tally, frame: &[u8; ROOM], expected: &mut [usize; BOTH]) -> Tally {
+fn with_line(
+    to: &mut Output,
+    tally: Tally,
+    frame: &[u8; ROOM],
+    expected: &mut [usize; BOTH],
+) -> Tally {
     let lines = next(tally.lines);
     let read = case::with_number(tally.case, expected);
     let case = case::start();
@@ -84,7 +89,8 @@ fn with_line(to: &mut Output, tally: Tally, frame: &[u8; ROOM], expected: &mut [
     Tally { case, lines, wrong }
 }
 
-fn with_letter(to: &mut Output, 
+fn with_letter(
+    to: &mut Output,
     tally: Tally,
     letter: u8,
     frame: &mut [u8; ROOM],
@@ -101,7 +107,8 @@ fn with_letter(to: &mut Output,
     Tally { case, lines, wrong }
 }
 
-fn with_letters(to: &mut Output, 
+fn with_letters(
+    to: &mut Output,
     tally: Tally,
     letters: &[u8],
     frame: &mut [u8; ROOM],

@@ -46,7 +46,14 @@ fn put_bytes(room: &mut [u8], place: usize, bytes: &[u8]) {
 }
 
 // A change between two calls, by the first letter of its name.
-fn change(to: &mut Output, name: u8, head: Head, kept: Kept, room: &mut [u8], bytes: &[u8]) -> Kept {
+fn change(
+    to: &mut Output,
+    name: u8,
+    head: Head,
+    kept: Kept,
+    room: &mut [u8],
+    bytes: &[u8],
+) -> Kept {
     let row = kept.row;
     match name {
         b'r' => new_room(head.second, room),
@@ -89,7 +96,14 @@ fn call_in(to: &mut Output, name: u8, kept: Kept, room: &mut [u8], value: &[u8])
     Kept { lent, row }
 }
 
-fn answer(to: &mut Output, name: u8, head: Head, kept: Kept, room: &mut [u8], bytes: &[u8]) -> Kept {
+fn answer(
+    to: &mut Output,
+    name: u8,
+    head: Head,
+    kept: Kept,
+    room: &mut [u8],
+    bytes: &[u8],
+) -> Kept {
     if is_call(name) {
         return call_in(to, name, kept, room, bytes);
     }
