@@ -1,7 +1,7 @@
 #!/usr/bin/env python3
 """Spells the definitions and lemmas of specs/ and proofs/ as today's Rattle does: words in snake case.
 
-usage: tools/spell-names.py [--check]      at the top of the repository, once, after /opt/rattle/port/port.py
+usage: tools/spell-names.py [--check]      at the top of the repository, once, after the kit's port.py
 
     readNumber, needMore          ->  read_number, need_more
     value-short, by-step          ->  value_short, by_step
