@@ -2,4 +2,3 @@ pub mod Numbers
 pub mod Texts
 pub mod Values
 pub mod Lists
-pub mod Signs

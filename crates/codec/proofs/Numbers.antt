@@ -1,12 +1,14 @@
 -- A number of a frame, byte by byte.
-use Prim.Native.Nat.{ℕ, suc, ◌+◌, ◌*◌, ◌/◌, ◌%◌, ◌≤◌, ◌<◌}
+use Prim.Native.Nat.{ℕ, suc, ◌+◌, ◌-◌, ◌*◌, ◌≤◌, ◌<◌}
 use mathlib.Core.List.{List}
 use mathlib.Core.Path.{◌≡◌, refl, ap, ◌∙◌}
-use native.Mathlib.Nat.{add-suc}
+use native.Mathlib.Nat.{add-suc, add-zero}
 use native.Mathlib.Numerals.{add-one}
 use native.Mathlib.Omega.{arith}
 use borrow.Author.Tests.{le-leb, lt-leb}
 use lib.ListN.{length, get_or, take, drop}
+use Rattle.std.specs.List.{slice_range}
+use Rattle.std.proofs.lemmas.List.{take_all, get_or-drop, length-drop}
 use lib.Seq.{drop-cons}
 use Rattle.protocol.specs.Bytes.{number_from, number_at}
 use Rattle.protocol.specs.Reading.{got, bad, read_number}
@@ -33,6 +35,10 @@ module _ (f : List ℕ) (p : ℕ) where
   unfolding number_at number_from
   word_at h = first 3 (omega arith) ∙ next 2 1 _ (omega arith) ∙ next 1 2 _ (omega arith) ∙ next 0 3 _ (omega arith) ∙ omega arith
 
+  -- a number of four bytes is below 2 ^ 32
+  pub word_small : ((k : ℕ) → get_or f k 0 < 256) → p + 4 ≤ length f → number_at 4 f p < 4294967296
+  word_small byte h = omega (arith, word_at h, byte p, byte (p + 1), byte (p + 2), byte (p + 3))
+
   -- what a step answers where the number is whole, and where it is cut
   pub number_got : (w n : ℕ) → p + w ≤ length f → n ≡ number_at w f p → got n (p + w) ≡ read_number w f p
   unfolding read_number
@@ -42,16 +48,16 @@ module _ (f : List ℕ) (p : ℕ) where
   unfolding read_number
   number_cut w h = rw (lt-leb (p + w) (length f) h) refl
 
-rest : (y b q : ℕ) → b < 256 → y ≡ b + 256 * q → y % 256 ≡ b
-rest y b q h e = omega arith
+-- the bytes that stand from p on
+module _ (f rest : List ℕ) (p : ℕ) (e : rest ≡ slice_range f p (length f)) where
+  from_rest : (k : ℕ) → get_or rest k 0 ≡ get_or f (p + k) 0
+  from_rest k =
+      let all : length (drop p f) ≤ length f - p = omega (arith, length-drop p f) in
+      rw (e, take_all (length f - p) (drop p f) all) (get_or-drop p f k 0)
 
--- four bytes in one order and in the other
-pub turned_four : (x a b c d : ℕ) → a < 256 → b < 256 → c < 256 → d < 256 → x ≡ a + b * 256 + c * 65536 + d * 16777216 → x % 256 * 16777216 + x / 256 % 256 * 65536 + x / 65536 % 256 * 256 + x / 16777216 ≡ a * 16777216 + b * 65536 + c * 256 + d
-turned_four x a b c d ha hb hc hd e =
-    let ea : x % 256 ≡ a = omega arith in
-    let above-a : x / 256 ≡ b + 256 * (c + d * 256) = omega arith in
-    let above-b : x / 65536 ≡ c + 256 * d = omega arith in
-    let eb : x / 256 % 256 ≡ b = rest (x / 256) b (c + d * 256) hb above-a in
-    let ec : x / 65536 % 256 ≡ c = rest (x / 65536) c d hc above-b in
-    let ed : x / 16777216 ≡ d = omega arith in
-    cc
+  -- the number that the first two or four of them are
+  pub half_from : p + 2 ≤ length f → get_or rest 0 0 * 256 + get_or rest 1 0 ≡ number_at 2 f p
+  half_from h = rw (from_rest 0, from_rest 1, half_at f p h, add-zero p) refl
+
+  pub word_from : p + 4 ≤ length f → get_or rest 0 0 * 16777216 + get_or rest 1 0 * 65536 + get_or rest 2 0 * 256 + get_or rest 3 0 ≡ number_at 4 f p
+  word_from h = rw (from_rest 0, from_rest 1, from_rest 2, from_rest 3, word_at f p h, add-zero p) refl

@@ -1,7 +1,7 @@
 -- What the steps of a kind's decoder answer around its body.
 use Rattle.std.specs.Prelude.{ℕ, ◌+◌, cond, List, ltb, eqb, ℤ, pos, negsuc, length, take}
-use Rattle.protocol.specs.declared.Decoded.TheVariants as D
-use Rattle.protocol.specs.declared.Decoded.{Decoded}
+use Rattle.protocol.specs.Decoded as D
+use Rattle.protocol.specs.Decoded.{Decoded}
 use Rattle.protocol.specs.declared.Message.{Message}
 use Rattle.protocol.specs.declared.Rules.{Rules}
 use Rattle.protocol.specs.declared.kinds.Line.{Line}

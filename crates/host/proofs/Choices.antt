@@ -5,8 +5,8 @@ use mathlib.Core.Option.{Option, some, none}
 use mathlib.Core.Path.{◌≡◌, refl, ap, ◌∙◌}
 use borrow.Author.Tests.{ne_eqb}
 use lib.ListN.{length}
-use Rattle.protocol.specs.declared.Encoded.TheVariants as N
-use Rattle.protocol.specs.declared.Encoded.{Encoded}
+use Rattle.protocol.specs.Encoded as N
+use Rattle.protocol.specs.Encoded.{Encoded}
 use Rattle.protocol.specs.Encode.{Encodes}
 use Rattle.protocol.specs.Kinds.{Kind, Mode, find}
 use Rattle.protocol.specs.Refusals.{type_unknown}

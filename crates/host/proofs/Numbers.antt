@@ -8,7 +8,7 @@ use native.Mathlib.Omega.{arith}
 use borrow.Author.Tests.{lt-ltb, ltb-false}
 use lib.Dec.{ltb}
 use lib.ListN.{length}
-use Rattle.protocol.specs.declared.Encoded.TheVariants as N
+use Rattle.protocol.specs.Encoded as N
 use Rattle.protocol.specs.Encode.{encoded_by}
 use Rattle.protocol.specs.Kinds.{Kind, Mode}
 use Rattle.protocol.specs.Refusals.{length_above_limit, output_too_short, not_representable}

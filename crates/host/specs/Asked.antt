@@ -1,8 +1,8 @@
 -- What a call of an encoder asks for, by the number of the kind's row; the number that is answered, and what the output then holds.
 use Rattle.std.specs.Prelude.{ℕ, ◌-◌, true, cond, List, [], ◌∷◌, ◌++◌, map, ◌≡◌, ltb, ℤ, pos, length}
 use Rattle.std.proofs.Math.Option.{Option, some, none}
-use Rattle.protocol.specs.declared.Encoded.TheVariants as N
-use Rattle.protocol.specs.declared.Encoded.{Encoded}
+use Rattle.protocol.specs.Encoded as N
+use Rattle.protocol.specs.Encoded.{Encoded}
 use Rattle.protocol.specs.declared.data.FieldDescription.{FieldDescription}
 use Rattle.protocol.specs.declared.response.GssEncResponse.TheVariants as Gss
 use Rattle.protocol.specs.declared.response.SslResponse.TheVariants as Ssl

@@ -1,7 +1,7 @@
 -- A row that is built, at the boundary: two numbers in the place of a record, and a refusal's number in the place of an answer.
 use Rattle.std.specs.Prelude.{ℕ, zero, suc, List, [], ◌∷◌, ◌≡◌, get_or}
-use Rattle.protocol.specs.declared.Encoded.TheVariants as N
-use Rattle.protocol.specs.declared.Encoded.{Encoded}
+use Rattle.protocol.specs.Encoded as N
+use Rattle.protocol.specs.Encoded.{Encoded}
 use Rattle.protocol.specs.Answers.{Answer, success, refusal}
 use Rattle.row_builder.specs.Building.{left_by}
 use Rattle.row_builder.specs.declared.Built.TheVariants as B

@@ -4,12 +4,12 @@ use mathlib.Core.Bool.{true, cond, false≢true}
 use mathlib.Core.Logic.{inl, inr}
 use mathlib.Core.Option.{Option, some, none}
 use mathlib.Core.Path.{◌≡◌, refl, ap, sym, ◌∙◌}
-use Rattle.protocol.specs.declared.Decoded.TheVariants as D
-use Rattle.protocol.specs.declared.Decoded.{Decoded}
+use Rattle.protocol.specs.Decoded as D
+use Rattle.protocol.specs.Decoded.{Decoded}
 use Rattle.protocol.specs.declared.Element.TheVariants as E
 use Rattle.protocol.specs.declared.Element.{Element}
-use Rattle.protocol.specs.declared.Encoded.TheVariants as N
-use Rattle.protocol.specs.declared.Encoded.{Encoded}
+use Rattle.protocol.specs.Encoded as N
+use Rattle.protocol.specs.Encoded.{Encoded}
 use Rattle.protocol.specs.declared.List.{List as ListSlot}
 use Rattle.protocol.specs.declared.Message.{Message}
 use Rattle.protocol.specs.Answers.{Answer, success, needs_more, refusal, Unsuccessful, of_decoded, of_element, of_encoded}

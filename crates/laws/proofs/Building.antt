@@ -10,8 +10,8 @@ use borrow.Author.Tests.{leb-true, leb-false, le-leb, le-ltb, lt-ltb, ne_eqb}
 use lib.Dec.{leb, ltb}
 use lib.ListN.{length, take, drop, length-append, length-drop, take-append-drop}
 use lib.Seq.{set-append_seam, drop-append_seam, drop_at, drop-drop, length-take-le}
-use Rattle.protocol.specs.declared.Encoded.TheVariants as N
-use Rattle.protocol.specs.declared.Encoded.{Encoded}
+use Rattle.protocol.specs.Encoded as N
+use Rattle.protocol.specs.Encoded.{Encoded}
 use Rattle.protocol.specs.Each.{least_of_each}
 use Rattle.protocol.specs.Encode.{items, encoded_by, written_by}
 use Rattle.protocol.specs.Fields.{value_bytes, item_least, items_bytes, most, signed_count}

@@ -9,7 +9,7 @@ use mathlib.Core.Path.{◌≡◌, refl, ap, sym, ◌∙◌}
 use lib.Dec.{ltb}
 use lib.ListN.{length, take}
 use lib.Seq.{take-append-le}
-use Rattle.protocol.specs.declared.Decoded.TheVariants as D
+use Rattle.protocol.specs.Decoded as D
 use Rattle.protocol.specs.declared.Element.TheVariants as E
 use Rattle.protocol.specs.declared.Element.{Element}
 use Rattle.protocol.specs.declared.Message.{Message}

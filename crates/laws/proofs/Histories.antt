@@ -7,8 +7,8 @@ use native.Mathlib.Omega.{arith}
 use borrow.Author.Tests.{eq-eqb}
 use lib.ListN.{length, drop, length-append}
 use lib.Seq.{take_at}
-use Rattle.protocol.specs.declared.Encoded.TheVariants as N
-use Rattle.protocol.specs.declared.Encoded.{Encoded}
+use Rattle.protocol.specs.Encoded as N
+use Rattle.protocol.specs.Encoded.{Encoded}
 use Rattle.protocol.specs.Answers.{success, of_encoded}
 use Rattle.protocol.specs.Encode.{items, written_by}
 use Rattle.protocol.specs.Fields.{ValueInRange, value_bytes, ItemsInRange}

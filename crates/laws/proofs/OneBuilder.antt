@@ -6,8 +6,8 @@ use mathlib.Core.Logic.{inl, inr}
 use mathlib.Core.Path.{◌≡◌, refl, sym, ◌∙◌}
 use lib.Dec.{ltb, eqb}
 use lib.ListN.{length}
-use Rattle.protocol.specs.declared.Encoded.TheVariants as N
-use Rattle.protocol.specs.declared.Encoded.{Encoded}
+use Rattle.protocol.specs.Encoded as N
+use Rattle.protocol.specs.Encoded.{Encoded}
 use Rattle.protocol.specs.Answers.{refusal, Unsuccessful, of_encoded}
 use Rattle.protocol.specs.Bytes.{Bytes, is_one_of}
 use Rattle.protocol.specs.Fields.{value_bytes, most, signed_count}

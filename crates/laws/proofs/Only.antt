@@ -7,10 +7,10 @@ use mathlib.Core.Option.{Option, some, none}
 use mathlib.Core.Path.{◌≡◌, refl, ap, sym, ◌∙◌}
 use native.Mathlib.Omega.{arith}
 use lib.ListN.{length, take, drop, take-append-drop}
-use Rattle.protocol.specs.declared.Decoded.TheVariants as D
-use Rattle.protocol.specs.declared.Decoded.{Decoded}
+use Rattle.protocol.specs.Decoded as D
+use Rattle.protocol.specs.Decoded.{Decoded}
 use Rattle.protocol.specs.declared.Element.{Element}
-use Rattle.protocol.specs.declared.Encoded.{Encoded}
+use Rattle.protocol.specs.Encoded.{Encoded}
 use Rattle.protocol.specs.declared.Message.{Message}
 use Rattle.protocol.specs.declared.Rules.{Rules}
 use Rattle.protocol.specs.Answers.{Answer, success, needs_more, refusal, of_decoded, of_element, of_encoded}

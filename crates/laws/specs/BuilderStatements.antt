@@ -2,7 +2,7 @@
 -- gives its answer and the room after. The theorems hold of `the_builder`, which is what the calls' contracts say.
 use Rattle.std.specs.Prelude.{ℕ, ◌+◌, ◌-◌, ◌≤◌, ◌<◌, List, [], ◌∷◌, ◌++◌, ◌⊎◌, ◌↔◌, ◌≡◌, length, take}
 use Rattle.std.proofs.Math.Option.{Option, some, none}
-use Rattle.protocol.specs.declared.Encoded.{Encoded}
+use Rattle.protocol.specs.Encoded.{Encoded}
 use Rattle.protocol.specs.Answers.{success, refusal, Unsuccessful, of_encoded}
 use Rattle.protocol.specs.Bytes.{Bytes}
 use Rattle.protocol.specs.Encode.{items}

@@ -3,7 +3,7 @@
 -- encoder's contract says. Crate by_kind (ByName.antt) says the round trip kind by kind, by the names of the arguments.
 use Rattle.std.specs.Prelude.{ℕ, ◌+◌, ◌*◌, ◌≤◌, true, List, [], ◌∷◌, ◌++◌, ◌⊎◌, ◌↔◌, ◌≡◌, ℤ, length, take, drop}
 use Rattle.std.proofs.Math.Option.{Option, some, none}
-use Rattle.protocol.specs.declared.Encoded.{Encoded}
+use Rattle.protocol.specs.Encoded.{Encoded}
 use Rattle.protocol.specs.declared.Rules.{Rules}
 use Rattle.protocol.specs.declared.data.FieldDescription.{FieldDescription}
 use Rattle.protocol.specs.Answers.{success, refusal, Unsuccessful, of_decoded, of_encoded}

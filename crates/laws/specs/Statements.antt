@@ -3,7 +3,7 @@
 -- protocol's Answers sets it out: success with a record and the bytes consumed, needs_more, or a refusal with its number and place.
 use Rattle.std.specs.Prelude.{ℕ, ◌+◌, ◌≤◌, true, false, List, [], ◌∷◌, ◌++◌, ◌⊎◌, ◌↔◌, ◌≡◌, length, take, drop}
 use Rattle.std.proofs.Math.Option.{none, map}
-use Rattle.protocol.specs.declared.Decoded.{Decoded}
+use Rattle.protocol.specs.Decoded.{Decoded}
 use Rattle.protocol.specs.declared.Element.{Element}
 use Rattle.protocol.specs.declared.Message.{Message}
 use Rattle.protocol.specs.declared.Rules.{Rules}

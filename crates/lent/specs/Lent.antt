@@ -2,7 +2,7 @@
 -- docs/DECISIONS.md has the calls that it does not speak of, and why.
 use Rattle.std.specs.Prelude.{ℕ, ◌<◌, List, ◌≡◌, ℤ, length}
 use Rattle.std.proofs.Math.Option.{Option}
-use Rattle.protocol.specs.declared.Encoded.{Encoded}
+use Rattle.protocol.specs.Encoded.{Encoded}
 use Rattle.protocol.specs.Answers.{Answer, Unsuccessful, of_encoded}
 use Rattle.protocol.specs.Encode.{Encodes}
 use Rattle.protocol.specs.Kinds.{Kind, Mode}

@@ -5,7 +5,7 @@ use mathlib.Core.Option.{Option, some, none}
 use mathlib.Core.Path.{◌≡◌, ap, refl, sym, ◌∙◌}
 use lib.Dec.{eqb, leb}
 use lib.ListN.{length}
-use Rattle.protocol.specs.declared.Encoded.{Encoded}
+use Rattle.protocol.specs.Encoded.{Encoded}
 use Rattle.protocol.specs.declared.List.{List as ListSlot}
 use Rattle.protocol.specs.declared.Span.{Span}
 use Rattle.protocol.specs.declared.data.FieldDescription.{FieldDescription}

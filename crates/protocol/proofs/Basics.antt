@@ -13,8 +13,8 @@ use lib.Signed.{mag}
 use mir.Syntax.{Width}
 use mir.Val.{hbits, to_z, of_z}
 use mir.ValLaws.{to_z-of_z}
-use Rattle.protocol.specs.declared.Decoded.TheVariants as D
-use Rattle.protocol.specs.declared.Encoded.TheVariants as N
+use Rattle.protocol.specs.Decoded as D
+use Rattle.protocol.specs.Encoded as N
 use Rattle.protocol.specs.declared.Message.{Message}
 use Rattle.protocol.specs.Bytes.{be}
 use Rattle.protocol.specs.Decode.{more, refuse, framed}

@@ -18,7 +18,7 @@ use Rattle.protocol.specs.Each.{Each}
 use Rattle.protocol.specs.Fields.{Slot}
 use Rattle.protocol.specs.Kinds.{Kind, Mode, modes, find, mode_of, kind_in, the_table}
 use Rattle.protocol.specs.Rules.{rules_of}
-use Rattle.protocol.specs.Views.{Shown, IsShown, shown, view, rows, numbered}
+use Rattle.protocol.specs.Views.{IsShown, shown, view, rows, numbered}
 use Rattle.protocol.proofs.Find.{All, told_row}
 use Rattle.protocol.specs.contracts.Message as Msg
 

@@ -2,12 +2,13 @@
 -- bytes consumed or written (0 for a refusal and for need-more), and what is handed back (none for a refusal and for need-more).
 use Rattle.std.specs.Prelude.{ℕ, Bool, true, false, ◌⊎◌, ◌≡◌}
 use Rattle.std.proofs.Math.Option.{Option, some, none}
-use Rattle.protocol.specs.declared.Decoded.TheVariants as D
-use Rattle.protocol.specs.declared.Decoded.{Decoded}
-use Rattle.protocol.specs.declared.Element.TheVariants as E
+use Rattle.protocol.specs.Decoded as D
+use Rattle.protocol.specs.Decoded.{Decoded}
 use Rattle.protocol.specs.declared.Element.{Element}
-use Rattle.protocol.specs.declared.Encoded.TheVariants as N
-use Rattle.protocol.specs.declared.Encoded.{Encoded}
+use Rattle.protocol.specs.Encoded as N
+use Rattle.protocol.specs.Encoded.{Encoded}
+use Rattle.protocol.specs.Found as F
+use Rattle.protocol.specs.Found.{Found}
 use Rattle.protocol.specs.declared.Message.{Message}
 
 pub record Answer (X : Type 0) : Type 0 where
@@ -37,16 +38,10 @@ of_decoded D.NeedMore = needs_more
 of_decoded (D.Refused number place) = refusal number place
 
 -- an element call: the element; it consumes nothing
-unfoldable pub of_element : Element → Answer Element
-of_element (E.Oid n) = success (E.Oid n) 0
-of_element (E.Format z) = success (E.Format z) 0
-of_element E.Null = success E.Null 0
-of_element (E.Value s) = success (E.Value s) 0
-of_element (E.Field d) = success (E.Field d) 0
-of_element (E.ErrorField c s) = success (E.ErrorField c s) 0
-of_element (E.Pair n v) = success (E.Pair n v) 0
-of_element E.NeedMore = needs_more
-of_element (E.Refused number place) = refusal number place
+unfoldable pub of_element : Found → Answer Element
+of_element (F.Is e) = success e 0
+of_element F.NeedMore = needs_more
+of_element (F.Refused number place) = refusal number place
 
 -- encoding: the bytes written; it hands nothing back
 unfoldable pub of_encoded : Encoded → Answer (Unit {0})

@@ -1,8 +1,8 @@
 -- Decoding: the header's checks in their order, then the body from left to right (docs/FORMAT.md 3).
 use Rattle.std.specs.Prelude.{ℕ, ◌+◌, cond, List, ltb, eqb, ℤ, pos, negsuc, length, take}
 use Rattle.std.proofs.Math.Option.{Option, some, none}
-use Rattle.protocol.specs.declared.Decoded.TheVariants as D
-use Rattle.protocol.specs.declared.Decoded.{Decoded}
+use Rattle.protocol.specs.Decoded as D
+use Rattle.protocol.specs.Decoded.{Decoded}
 use Rattle.protocol.specs.declared.Message.{Message}
 use Rattle.protocol.specs.declared.Rules.{Rules}
 use Rattle.protocol.specs.Bytes.{number_at, signed_of}

@@ -3,6 +3,8 @@ use Rattle.std.specs.Prelude.{ℕ, zero, suc, cond, List, [], ◌∷◌, ltb, ta
 use Rattle.std.proofs.Math.Option.{Option, some, none}
 use Rattle.protocol.specs.declared.Element.TheVariants as E
 use Rattle.protocol.specs.declared.Element.{Element}
+use Rattle.protocol.specs.Found as F
+use Rattle.protocol.specs.Found.{Found}
 use Rattle.protocol.specs.declared.List.{List as ListSlot}
 use Rattle.protocol.specs.declared.Message.{Message}
 use Rattle.protocol.specs.declared.Rules.{Rules}
@@ -36,36 +38,41 @@ list_of m l = list_in (view m).kind.body l (view m).slots
 abbrev pub read_item_at : Rules → (i : Item) → ℕ → List ℕ → ℕ → Read (Each AtomSlot i.atoms)
 read_item_at rules i n f p = and_then (pass_items rules i n f p) (λ _ q. read_item rules i f q)
 
-unfoldable pub element_by : {X : Type 0} → (X → Element) → Read X → Element
-element_by element (got x next) = element x
-element_by element (bad number place) = E.Refused number place
+-- what is answered of what was read, or its refusal
+unfoldable pub found_by : {X : Type 0} → (X → Found) → Read X → Found
+found_by answer (got x next) = answer x
+found_by answer (bad number place) = F.Refused number place
+
+unfoldable pub element_by : {X : Type 0} → (X → Element) → Read X → Found
+element_by element (got x next) = F.Is (element x)
+element_by element (bad number place) = F.Refused number place
 
 -- element n of a list, if there is the list and n is below its count
-unfoldable pub element_at : Rules → List ℕ → ℕ → Option Listed → Element
-element_at rules f n none = E.Refused no_such_element 0
+unfoldable pub element_at : Rules → List ℕ → ℕ → Option Listed → Found
+element_at rules f n none = F.Refused no_such_element 0
 element_at rules f n (some l) =
     cond (ltb n l.list.count) (element_by l.item.element (read_item_at rules l.item n f l.list.start))
-    (E.Refused no_such_element 0)
+    (F.Refused no_such_element 0)
 
 -- decode's own refusal or need-more first
-unfoldable pub element_in : Rules → List ℕ → ℕ → ℕ → Header → Element
-element_in rules s l n more = E.NeedMore
-element_in rules s l n (refuse number place) = E.Refused number place
+unfoldable pub element_in : Rules → List ℕ → ℕ → ℕ → Header → Found
+element_in rules s l n more = F.NeedMore
+element_in rules s l n (refuse number place) = F.Refused number place
 element_in rules s l n (framed k start end) =
-    element_by (element_at rules (take end s) n) (read_body rules k (list_in k.body l) (take end s) start)
+    found_by (element_at rules (take end s) n) (read_body rules k (list_in k.body l) (take end s) start)
 
 -- element n of list l of the frame at the buffer's start
-unfoldable pub element_of : Rules → List ℕ → ℕ → ℕ → Element
+unfoldable pub element_of : Rules → List ℕ → ℕ → ℕ → Found
 element_of rules s l n = element_in rules s l n (header_of rules s)
 
 -- the second form: a value's own bytes, or the stand-in for NULL; where there is no value, the empty start of the stand-in
-unfoldable pub value_or : List ℕ → List ℕ → Element → List ℕ
-value_or s stand (E.Value v) = part_of s v.start v.len
-value_or s stand E.Null = stand
-value_or s stand (E.Oid n) = []
-value_or s stand (E.Format z) = []
-value_or s stand (E.Field d) = []
-value_or s stand (E.ErrorField c t) = []
-value_or s stand (E.Pair n v) = []
-value_or s stand E.NeedMore = []
-value_or s stand (E.Refused number place) = []
+unfoldable pub value_or : List ℕ → List ℕ → Found → List ℕ
+value_or s stand (F.Is (E.Value v)) = part_of s v.start v.len
+value_or s stand (F.Is E.Null) = stand
+value_or s stand (F.Is (E.Oid n)) = []
+value_or s stand (F.Is (E.Format z)) = []
+value_or s stand (F.Is (E.Field d)) = []
+value_or s stand (F.Is (E.ErrorField c t)) = []
+value_or s stand (F.Is (E.Pair n v)) = []
+value_or s stand F.NeedMore = []
+value_or s stand (F.Refused number place) = []

@@ -9,6 +9,7 @@ pub mod copy;
 pub mod data;
 pub mod extendedquery;
 pub mod kinds;
+pub mod mode;
 pub mod refusal;
 pub mod response;
 pub mod simplequery;
@@ -105,15 +106,7 @@ pub enum Message {
     BackendKeyData(BackendKeyData),
 }
 
-// What decoding answers: the record and the bytes consumed, need-more, or a refusal's number and place.
-#[derive(Clone, Copy)]
-pub enum Decoded {
-    Record(Message, usize),
-    NeedMore,
-    Refused(u8, usize),
-}
-
-// What an element call answers: the element, need-more, or a refusal's number and place.
+// An element of a list.
 #[derive(Clone, Copy)]
 pub enum Element {
     Oid(u32),
@@ -125,13 +118,4 @@ pub enum Element {
     ErrorField(u8, Span),
     // A start-up argument: its name and its value.
     Pair(Span, Span),
-    NeedMore,
-    Refused(u8, usize),
-}
-
-// What an encoder answers: the bytes written, or a refusal's number and place.
-#[derive(Clone, Copy)]
-pub enum Encoded {
-    Done(usize),
-    Refused(u8, usize),
 }

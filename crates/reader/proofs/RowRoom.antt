@@ -10,8 +10,8 @@ use borrow.Author.Tests.{leb-true, le-leb, lt-leb}
 use lib.Dec.{T, eqb, leb}
 use lib.IntN.{ℤ}
 use lib.ListN.{length}
-use Rattle.protocol.specs.declared.Decoded.TheVariants as D
-use Rattle.protocol.specs.declared.Decoded.{Decoded}
+use Rattle.protocol.specs.Decoded as D
+use Rattle.protocol.specs.Decoded.{Decoded}
 use Rattle.protocol.specs.declared.Message.TheVariants as M
 use Rattle.protocol.specs.declared.Message.{Message}
 use Rattle.protocol.specs.declared.data.DataRow.{DataRow}

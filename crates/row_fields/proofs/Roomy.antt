@@ -5,7 +5,7 @@ use mathlib.Core.Path.{◌≡◌}
 use native.Mathlib.Omega.{arith}
 use borrow.Author.Tests.{leb-true}
 use lib.Dec.{leb}
-use Rattle.protocol.specs.declared.Encoded.TheVariants as N
+use Rattle.protocol.specs.Encoded as N
 use Rattle.protocol.specs.Fields.{most, signed_count}
 use Rattle.protocol.specs.Kinds.{large, large_frame}
 use Rattle.writers.specs.Writing.{largest, verdict_of}

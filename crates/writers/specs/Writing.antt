@@ -1,8 +1,8 @@
 -- What a writer does to the output, and the answer that comes before anything is written.
 use Rattle.std.specs.Prelude.{ℕ, ◌+◌, ◌≤◌, Bool, true, false, cond, ◌&&◌, List, [], ◌∷◌, ◌≡◌, leb, ltb, length, set}
 use Rattle.std.proofs.Math.Option.{Option, some}
-use Rattle.protocol.specs.declared.Encoded.TheVariants as N
-use Rattle.protocol.specs.declared.Encoded.{Encoded}
+use Rattle.protocol.specs.Encoded as N
+use Rattle.protocol.specs.Encoded.{Encoded}
 use Rattle.protocol.specs.Kinds.{Envelope, Kind}
 use Rattle.protocol.specs.Refusals.{length_above_limit, output_too_short, not_representable}
 use Rattle.protocol.specs.WellFormed.{Contents, frame}

@@ -3,7 +3,7 @@ use mathlib.Core.Path.{ap, sym, ◌∙◌}
 use borrow.Author.Rules.{rules}
 use lib.ListN.{take}
 use lib.Seq.{length-take-le}
-use Rattle.protocol.specs.declared.Decoded.TheVariants as D
+use Rattle.protocol.specs.Decoded as D
 use Rattle.protocol.specs.Elements.{element_at}
 use Rattle.element.proofs.Calls.{Answered, answered_as}
 use Rattle.element.proofs.element_by.Goals as goal

@@ -1,7 +1,7 @@
 -- `envelope::unframed` meets its contract: case by case of the header.
 use Prim.Native.Nat.{ℕ}
 use mathlib.Core.Path.{◌≡◌, refl}
-use Rattle.protocol.specs.declared.Decoded.TheVariants as D
+use Rattle.protocol.specs.Decoded as D
 use Rattle.envelope.specs.Steps.{unframed_of}
 use Rattle.envelope.specs.declared.Header.TheVariants as H
 use Rattle.envelope.specs.declared.Header.{Header}

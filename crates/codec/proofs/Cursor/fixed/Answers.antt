@@ -1,32 +1,22 @@
 -- `codec::Cursor::fixed` meets its contract.
-use Prim.Native.Nat.{◌+◌, ◌*◌, ◌≤◌}
-use mathlib.Core.Path.{◌≡◌, refl, ap, sym, ◌∙◌}
-use native.Mathlib.Omega.{arith}
-use lib.ListN.{length}
-use Rattle.protocol.specs.Reading.{got, read_count}
+use Rattle.std.proofs.Common.{refl, sym, arith}
+use Rattle.std.proofs.lemmas.Result.{err_from_is_err_and}
 use Rattle.protocol.proofs.Counts.{counted_is}
-use Rattle.codec.specs.CursorRead.{listed_read}
 use Rattle.codec.specs.Fixed.{read_fixed}
 use Rattle.codec.proofs.Cursor.fixed.Goals as goal
 
-pub returns-in_default : goal.returns-in_default
+pub returns-in_err-list : goal.returns-in_err-list
 unfolding read_fixed
-returns-in_default c = rw (← c.count-counted.ensures, c.in_default.is) refl
+returns-in_err-list c =
+    let p = err_from_is_err_and c.from_residual.result c.from_residual.ensures.1 in
+    rw (p.1, p.2, ← c.in_err-list.ensures) refl
 
-pub overflow_mul-result : goal.overflow_mul-result
-overflow_mul-result c =
-    let opened : read_count c.args.reading c.args.size c.args.frame.now c.args.self.at ≡ got c.in-Is.list c.in-Is.c.at = sym c.count-counted.ensures ∙ ap listed_read c.in-Is.is in
-    let fits : c.in-Is.c.at + c.in-Is.list.count * c.args.size ≤ length c.args.frame.now = let k = counted_is _ _ _ _ _ _ opened in omega (arith, k.room, k.fits) in
-    omega (arith, fits)
+pub overflow_mul-at : goal.overflow_mul-at
+overflow_mul-at c = let k = counted_is _ _ _ _ _ _ (sym c.in_ok-list.ensures) in omega (arith, k.room, k.fits)
 
-pub overflow_add-result : goal.overflow_add-result
-overflow_add-result c =
-    let opened : read_count c.args.reading c.args.size c.args.frame.now c.args.self.at ≡ got c.in-Is.list c.in-Is.c.at = sym c.count-counted.ensures ∙ ap listed_read c.in-Is.is in
-    let fits : c.in-Is.c.at + c.in-Is.list.count * c.args.size ≤ length c.args.frame.now = let k = counted_is _ _ _ _ _ _ opened in omega (arith, k.room, k.fits) in
-    omega (arith, fits)
+pub overflow_add-at : goal.overflow_add-at
+overflow_add-at c = let k = counted_is _ _ _ _ _ _ (sym c.in_ok-list.ensures) in omega (arith, k.room, k.fits)
 
 pub returns : goal.returns
 unfolding read_fixed
-returns c =
-    let opened : read_count c.args.reading c.args.size c.args.frame.now c.args.self.at ≡ got c.in-Is.list c.in-Is.c.at = sym c.count-counted.ensures ∙ ap listed_read c.in-Is.is in
-    rw opened refl
+returns c = rw (← c.in_ok-list.ensures) refl

@@ -1,18 +1,20 @@
 -- `codec::Cursor::half` meets its contract.
-use native.Mathlib.Omega.{arith}
-use Prim.Native.Nat.{◌+◌, ◌≤◌}
-use lib.ListN.{length}
-use Rattle.codec.proofs.Numbers.{half_at, number_got, number_cut}
+use Rattle.std.proofs.Common.{◌+◌, ◌<◌, ◌≤◌, length, inl, inr, ◌∙◌, arith}
+use Rattle.codec.proofs.Numbers.{half_from, number_got, number_cut}
 use Rattle.codec.proofs.Cursor.half.Goals as goal
 
-pub returns-then-frame-at : goal.returns-then-frame-at
-returns-then-frame-at c = number_cut c.args.frame.now c.args.self.at 2 (omega arith)
+pub returns-in_err-get : goal.returns-in_err-get
+returns-in_err-get c = let a = c.args in
+    let short : length a.frame.now < a.self.at = elim c.in_err-get.ensures.lookup.0 [ inl h ↦ h | inr h ↦ omega (arith, h) ] in
+    rw c.from_residual.ensures (number_cut a.frame.now a.self.at 2 (omega (arith, short)))
 
-pub returns-then-frame-at-lt2 : goal.returns-then-frame-at-lt2
-returns-then-frame-at-lt2 c = number_cut c.args.frame.now c.args.self.at 2 (omega arith)
+pub returns-in_default : goal.returns-in_default
+returns-in_default c = let k = c.in_ok-get.ensures.lookup.0 in
+    number_cut c.args.frame.now c.args.self.at 2 (omega (arith, k.3, c.in_default.len_below))
 
 pub returns : goal.returns
-returns c = let f = c.args.frame.now in
+returns c = let k = c.in_ok-get.ensures.lookup.0 in
+    let f = c.args.frame.now in
     let p = c.args.self.at in
-    let whole : p + 2 ≤ length f = omega (arith, c) in
-    number_got f p 2 _ whole (cc (half_at f p whole))
+    let whole : p + 2 ≤ length f = omega (arith, k.3, c.in-len2-up.len_at_least) in
+    number_got f p 2 _ whole (c.from_be_bytes.ensures ∙ half_from f _ p k.2 whole)

@@ -1,21 +1,22 @@
--- `codec::Cursor::pass_values` meets its contract. The invariant: what is left to pass from here is what there was to pass at first.
-use mathlib.Core.Path.{refl, ap, sym, ◌∙◌}
+-- `codec::Cursor::pass_values` meets its contract.
+use Rattle.std.proofs.Common.{◌≡◌, ◌+◌, ◌-◌, ◌≤◌, ◌<◌, ◌∙◌, arith}
+use Rattle.std.proofs.lemmas.Result.{err_from_is_err_and}
 use Rattle.protocol.proofs.Counts.{pass_none, pass_refused, pass_turn}
-use Rattle.codec.specs.CursorRead.{passed_read}
 use Rattle.codec.proofs.Cursor.pass_values.Goals as goal
 
-pub loop-left-init : goal.loop-left-init
-loop-left-init c = refl
+pub returns-in_err-c : goal.returns-in_err-c
+returns-in_err-c c =
+    let p = err_from_is_err_and c.from_residual.result c.from_residual.ensures.1 in
+    let left : 0 < c.args.count - c.loop.counter = omega arith in
+    rw (p.1, p.2) (pass_refused _ _ _ _ _ left _ _ c.in_err-c.ensures ∙ c.loop.invariant)
 
-pub pass_value-passed-requires : goal.pass_value-passed-requires
-pass_value-passed-requires c = c.words_end-ends.ensures
-
-pub returns-in_default : goal.returns-in_default
-returns-in_default c = let t = c.in_default.is in
-    ap passed_read t ∙ pass_refused _ _ _ _ _ c.loop-left-test.true _ _ (ap passed_read (sym t) ∙ c.pass_value-passed.ensures) ∙ c.loop-left.invariant
-
-pub loop-left-preserved : goal.loop-left-preserved
-loop-left-preserved c = pass_turn _ _ _ _ _ c.loop-left-test.true _ (ap passed_read (sym c.in-To.is) ∙ c.pass_value-passed.ensures) ∙ c.loop-left.invariant
+pub loop-preserved : goal.loop-preserved
+loop-preserved c =
+    let left : 0 < c.args.count - c.loop.counter = omega arith in
+    let less : c.args.count - (c.loop.counter + 1) ≡ c.args.count - c.loop.counter - 1 = omega arith in
+    rw less (pass_turn _ _ _ _ _ left _ c.in_ok-c.ensures ∙ c.loop.invariant)
 
 pub returns : goal.returns
-returns c = pass_none _ _ _ _ _ c.loop-left-test.false ∙ c.loop-left.invariant
+returns c =
+    let none : c.args.count - c.loop.counter ≤ 0 = omega arith in
+    pass_none _ _ _ _ _ none ∙ c.loop.invariant

@@ -2,8 +2,8 @@
 use Rattle.codec.proofs.Texts.{not_before, at_zero, at_end_lem}
 use Rattle.codec.proofs.Cursor.text.Goals as goal
 
-pub overflow_sub-result : goal.overflow_sub-result
-overflow_sub-result c = let a = c.args in
+pub overflow_sub-len : goal.overflow_sub-len
+overflow_sub-len c = let a = c.args in
     not_before a.frame.now a.self.at _ c.zero_from-zero.ensures
 
 pub returns-then-zero-frame : goal.returns-then-zero-frame

@@ -4,7 +4,7 @@ use mathlib.Core.List.{List}
 use mathlib.Core.Path.{refl}
 use native.Mathlib.Omega.{arith}
 use lib.ListN.{length}
-use Rattle.protocol.specs.declared.Encoded.{Encoded}
+use Rattle.protocol.specs.Encoded.{Encoded}
 use Rattle.protocol.specs.Each.{able_each}
 use Rattle.protocol.specs.Encode.{Encodes}
 use Rattle.protocol.specs.Fields.{able, atom_able}
