@@ -12,12 +12,12 @@ ghost use Rattle.protocol.specs.Bytes.{be, bits_of, no_zero};
 ghost use Rattle.protocol.specs.Encode.{items};
 ghost use Rattle.protocol.specs.Fields.{bytes, items_bytes, most, unsigned_count};
 ghost use Rattle.protocol.specs.Kinds.{format, formats, large_frame, oid, oids, typed};
+ghost use Rattle.protocol.specs.Told.{encoded};
 ghost use Rattle.protocol.specs.WellFormed.{header};
 ghost use Rattle.writers.specs.Writing.{Put, Wrote, largest, verdict_of};
 
-use protocol::Encoded;
 use protocol::kinds::{LARGE_FRAME, MOST_UNSIGNED};
-use protocol::refusal::{LENGTH_ABOVE_LIMIT, NOT_REPRESENTABLE, OUTPUT_TOO_SHORT};
+use protocol::refusal::{Refusal, Refused};
 use scan::zero_from;
 
 // ---- numbers. Writers named store_ ask for their room; the ones named put_, below, look for it
@@ -280,31 +280,31 @@ pub fn plus4(a: usize, b: usize, c: usize, d: usize) -> usize
 }
 
 // The answer to a frame whose length is size, before anything of it is written; it has `uncounted` bytes that its length does not count.
-fn judged(able: bool, limit: u32, size: usize, uncounted: u8, room: usize) -> Encoded
-    ensures { result ≡ verdict_of able limit size uncounted room }
+fn judged(able: bool, limit: u32, size: usize, uncounted: u8, room: usize) -> Result<usize, Refused>
+    ensures { encoded result ≡ verdict_of able limit size uncounted room }
 {
-    if able {
-        if (limit as usize) < size {
-            return Encoded::Refused(LENGTH_ABOVE_LIMIT, 0);
-        }
-        let whole = size + uncounted as usize;
-        if whole <= room {
-            return Encoded::Done(whole);
-        }
-        return Encoded::Refused(OUTPUT_TOO_SHORT, 0);
+    if !able {
+        return Err(Refusal::NotRepresentable.at(0));
     }
-    Encoded::Refused(NOT_REPRESENTABLE, 0)
+    if (limit as usize) < size {
+        return Err(Refusal::LengthAboveLimit.at(0));
+    }
+    let whole = size + uncounted as usize;
+    if room < whole {
+        return Err(Refusal::OutputTooShort.at(0));
+    }
+    Ok(whole)
 }
 
 // The answer to a frame with a type byte, and to one without.
-pub fn verdict(able: bool, limit: u32, size: usize, room: usize) -> Encoded
-    ensures { result ≡ verdict_of able limit size 1 room }
+pub fn verdict(able: bool, limit: u32, size: usize, room: usize) -> Result<usize, Refused>
+    ensures { encoded result ≡ verdict_of able limit size 1 room }
 {
     judged(able, limit, size, 1, room)
 }
 
-pub fn verdict_untyped(able: bool, limit: u32, size: usize, room: usize) -> Encoded
-    ensures { result ≡ verdict_of able limit size 0 room }
+pub fn verdict_untyped(able: bool, limit: u32, size: usize, room: usize) -> Result<usize, Refused>
+    ensures { encoded result ≡ verdict_of able limit size 0 room }
 {
     judged(able, limit, size, 0, room)
 }
