@@ -2,9 +2,10 @@
 use Prim.Native.Nat.{ℕ, ◌+◌, ◌≤◌}
 use mathlib.Core.Bool.{Bool, true, false, cond}
 use mathlib.Core.List.{List, [], ◌∷◌}
-use mathlib.Core.Path.{◌≡◌, refl, ap, ◌∙◌}
+use Rattle.std.specs.Prelude.{Err}
+use mathlib.Core.Path.{◌≡◌, refl, ap, ◌∙◌, sym, subst}
 use native.Mathlib.Omega.{arith}
-use borrow.Author.Tests.{ltb-false, eqb-true, eqb-false}
+use borrow.Author.Tests.{ltb-false, le-ltb, eqb-true, eqb-false}
 use lib.Dec.{ltb, eqb}
 use lib.IntN.{ℤ, pos, negsuc}
 use lib.ListN.{length, take}
@@ -20,13 +21,17 @@ use Rattle.protocol.specs.Each.{Each}
 use Rattle.protocol.specs.Fields.{Field, Slot}
 use Rattle.protocol.specs.Kinds.{Envelope, typed, untyped, bare, Kind}
 use Rattle.protocol.specs.Lines.{line_of}
-use Rattle.protocol.specs.Reading.{Read, got, bad, and_then, read}
+use Rattle.protocol.specs.Reading.{Read, got, bad, and_then, read, read_number}
+use Rattle.protocol.proofs.Numbers.{whole}
 use Rattle.protocol.specs.Refusals.{length_too_small, length_above_limit, not_allowed}
 use Rattle.protocol.specs.WellFormed.{body_start}
 use Rattle.protocol.proofs.OneByOne.{each_on, each_off}
-use Rattle.envelope.specs.Steps.{end_of, end_in, unframed_of, left_of, framed_by, decode_made}
-use Rattle.envelope.specs.declared.Header.TheVariants as H
-use Rattle.envelope.specs.declared.Header.{Header}
+use Rattle.envelope.specs.Steps.{end_of, end_in, Framed, unread, left_of, framed_by, decode_made}
+use Rattle.protocol.specs.Told.{decoded}
+use Rattle.protocol.specs.declared.refusal.Unread.TheVariants as U
+use Rattle.protocol.specs.declared.refusal.Unread.{Unread}
+use Rattle.envelope.specs.Header as H
+use Rattle.envelope.specs.Header.{Header}
 
 -- ---- one field after the other
 
@@ -116,26 +121,35 @@ made_as rules bare k s = by (eqb (length s) 0) refl
 
 -- ---- what the code knows behind the envelope
 
-module _ (rules : Rules) (e : Envelope) (l : Line) (xs : List Field) (make : Each Slot xs → Message) (s : List ℕ) {h : Header} (is : h ≡ end_in e l s) where
+module _ (rules : Rules) (e : Envelope) (l : Line) (xs : List Field) (make : Each Slot xs → Message) (s : List ℕ) where
   -- a whole frame: its body is left
-  pub begin_made : {end : ℕ} → h ≡ H.Frame end → Left rules (take end s) (decode_made rules e l xs make s) xs make (body_start e)
-  begin_made f = record { is = rw (← is, f) refl }
+  pub begin_made : {f : List ℕ} → Framed (end_in e l s) s f → Left rules f (decode_made rules e l xs make s) xs make (body_start e)
+  begin_made {f} is-frame = record { is = rw (is-frame.header, ← is-frame.bytes) refl }
 
   -- none
-  pub none_made : ((end : ℕ) → h ≡ H.Frame end → ⊥) → unframed_of h ≡ decode_made rules e l xs make s
-  none_made o = by h o is
-    where
-      by : (h : Header) → ((end : ℕ) → h ≡ H.Frame end → ⊥) → h ≡ end_in e l s → unframed_of h ≡ decode_made rules e l xs make s
-      by (H.Frame end) o is = absurd (o end refl)
-      by H.NeedMore o is = rw (← is) refl
-      by (H.Refused number place) o is = rw (← is) refl
+  pub none_made : (u : Unread) → unread u ≡ end_in e l s → decoded (Err u) ≡ decode_made rules e l xs make s
+  none_made U.NeedMore is = rw (← is) refl
+  none_made (U.Refused r) is = rw (← is) refl
 
-module _ (rules : Rules) (e : Envelope) (k : Kind) (s : List ℕ) {h : Header} (is : h ≡ end_in e (line_of k) s) where
-  pub begin : {end : ℕ} → h ≡ H.Frame end → Left rules (take end s) (decode_as rules e k s) k.body k.message (body_start e)
-  begin f = record { is = (begin_made rules e (line_of k) k.body k.message s is f).is ∙ made_as rules e k s }
+module _ (rules : Rules) (e : Envelope) (k : Kind) (s : List ℕ) where
+  pub begin : {f : List ℕ} → Framed (end_in e (line_of k) s) s f → Left rules f (decode_as rules e k s) k.body k.message (body_start e)
+  begin is-frame = record { is = (begin_made rules e (line_of k) k.body k.message s is-frame).is ∙ made_as rules e k s }
 
-  pub none : ((end : ℕ) → h ≡ H.Frame end → ⊥) → unframed_of h ≡ decode_as rules e k s
-  none o = none_made rules e (line_of k) k.body k.message s is o ∙ made_as rules e k s
+  pub none : (u : Unread) → unread u ≡ end_in e (line_of k) s → decoded (Err u) ≡ decode_as rules e k s
+  none u is = none_made rules e (line_of k) k.body k.message s u is ∙ made_as rules e k s
+
+-- the length word was read, where it stands: its checks are left
+module _ (l : Line) (s : List ℕ) (n q : ℕ) where
+  pub typed_end : got n q ≡ read_number 4 s 1 → end_of l 1 (length s) (signed_of 4 n) ≡ end_in typed l s
+  unfolding end_in
+  typed_end e =
+      let w = whole 4 s 1 n q (sym e) in
+      let room : 5 ≤ length s = omega (arith, w.fits, w.next) in
+      rw (le-ltb (length s) 5 room, w.is) refl
+
+  pub untyped_end : 8 ≤ length s → got n q ≡ read_number 4 s 0 → end_of l 0 (length s) (signed_of 4 n) ≡ end_in untyped l s
+  unfolding end_in
+  untyped_end room e = let w = whole 4 s 0 n q (sym e) in rw (le-ltb (length s) 8 room, w.is) refl
 
 -- a whole frame ends within the buffer
 abbrev Within : ℕ → Header → Type 0
@@ -168,7 +182,12 @@ within bare l s = by (eqb (length s) 0) refl
     by true h = tt
     by false h = let some : length s ≡ 0 → ⊥ = eqb-false _ _ h in omega arith
 
-pub ends : (e : Envelope) (l : Line) (s : List ℕ) {h : Header} {end : ℕ} → h ≡ end_in e l s → h ≡ H.Frame end → length (take end s) ≡ end
-ends e l s {h} {end} is f =
-    let w : Within (length s) h = rw is (within e l s) in
-    length-take-le end s (rw f at w)
+-- so the part of the buffer up to there is the frame
+module _ (e : Envelope) (l : Line) (s : List ℕ) {end : ℕ} (is : H.Frame end ≡ end_in e l s) where
+  pub ends : end ≡ length (take end s)
+  ends =
+      let w : Within (length s) (H.Frame end) = subst (Within (length s)) (sym is) (within e l s) in
+      sym (length-take-le end s w)
+
+  pub frames : Framed (end_in e l s) s (take end s)
+  frames = record { header = sym is ∙ ap H.Frame ends; bytes = ap (λ (n : ℕ). take n s) ends }

@@ -1,5 +1,5 @@
 -- What the steps of a kind's decoder answer around its body.
-use Rattle.std.specs.Prelude.{ℕ, ◌+◌, cond, List, ltb, eqb, ℤ, pos, negsuc, length, take}
+use Rattle.std.specs.Prelude.{ℕ, ◌+◌, cond, List, ◌≡◌, ltb, eqb, ℤ, pos, negsuc, length, take, Result, Ok, Err}
 use Rattle.protocol.specs.Decoded as D
 use Rattle.protocol.specs.Decoded.{Decoded}
 use Rattle.protocol.specs.declared.Message.{Message}
@@ -13,10 +13,11 @@ use Rattle.protocol.specs.Kinds.{Envelope, typed, untyped, bare}
 use Rattle.protocol.specs.Reading.{and_then, read, read_each}
 use Rattle.protocol.specs.Refusals.{length_too_small, length_above_limit}
 use Rattle.protocol.specs.WellFormed.{body_start}
-use Rattle.codec.specs.declared.Listed.TheVariants as L
-use Rattle.codec.specs.declared.Listed.{Listed}
-use Rattle.envelope.specs.declared.Header.TheVariants as H
-use Rattle.envelope.specs.declared.Header.{Header}
+use Rattle.protocol.specs.Told.{number_of}
+use Rattle.protocol.specs.declared.refusal.Unread.TheVariants as U
+use Rattle.protocol.specs.declared.refusal.Unread.{Unread}
+use Rattle.envelope.specs.Header as H
+use Rattle.envelope.specs.Header.{Header}
 
 -- ---- the envelope
 
@@ -34,17 +35,21 @@ end_in typed l s = cond (ltb (length s) 5) H.NeedMore (end_of l 1 (length s) (si
 end_in untyped l s = cond (ltb (length s) 8) H.NeedMore (end_of l 0 (length s) (signed_of 4 (number_at 4 s 0)))
 end_in bare l s = cond (eqb (length s) 0) H.NeedMore (H.Frame 1)
 
-abbrev pub unframed_of : Header → Decoded
-unframed_of (H.Frame end) = D.NeedMore
-unframed_of H.NeedMore = D.NeedMore
-unframed_of (H.Refused number place) = D.Refused number place
+-- why the code has no frame, and where it says that the frame ends
+abbrev pub unread : Unread → Header
+unread U.NeedMore = H.NeedMore
+unread (U.Refused r) = H.Refused (number_of r.refusal) r.place
+
+abbrev pub headed : Result ℕ Unread → Header
+headed (Ok end) = H.Frame end
+headed (Err u) = unread u
+
+-- f is the frame that the header tells of the buffer s
+pub record Framed (h : Header) (s f : List ℕ) : Type 0 where
+  pub header : h ≡ H.Frame (length f)
+  pub bytes : f ≡ take (length f) s
 
 -- ---- the body
-
--- the refusal of a list. (A list that was read is never asked; it has no number, and its place is the next)
-abbrev pub refusal_of : Listed → Decoded
-refusal_of (L.Refused number place) = D.Refused number place
-refusal_of (L.Is l c) = D.Refused 0 c.at
 
 -- what is left to read of a whole frame f from p on: these fields, and what is made of their slots
 abbrev pub left_of : Rules → (xs : List Field) → (Each Slot xs → Message) → List ℕ → ℕ → Decoded

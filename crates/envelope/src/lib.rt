@@ -2,117 +2,101 @@
 // Inner: for crates of this library alone (docs/INNER.md).
 #![tactic(auto)]
 
-ghost use Rattle.std.specs.Prelude.{[], ◌≡◌, length};
+ghost use Rattle.std.specs.Prelude.{[], ◌≡◌, MatchResult, length};
 ghost use Rattle.protocol.specs.Bytes.{signed_of};
 ghost use Rattle.protocol.specs.Decode.{closed, decoded_by};
 ghost use Rattle.protocol.specs.Kinds as K;
-ghost use Rattle.envelope.specs.Steps.{decode_made, end_in, end_of, refusal_of, unframed_of};
+ghost use Rattle.protocol.specs.Told.{decoded};
+ghost use Rattle.protocol.specs.declared.refusal.Refusal.TheVariants as R;
+ghost use Rattle.protocol.specs.declared.refusal.Unread.TheVariants as U;
+ghost use Rattle.envelope.specs.Steps.{Framed, decode_made, end_in, end_of, headed, unread};
 
-use codec::{Cursor, Listed, Word};
+use codec::Cursor;
 use protocol::kinds::{LONGEST, Line};
-use protocol::refusal::{BYTES_LEFT, LENGTH_ABOVE_LIMIT, LENGTH_TOO_SMALL};
-use protocol::{Decoded, Message, Rules};
+use protocol::refusal::{Refusal, Unread};
+use protocol::{Message, Rules};
 
 // Where the body of a frame starts: after a type byte and the length, and after the length and a code.
 pub const TYPED_BODY: usize = 5;
 
 pub const UNTYPED_BODY: usize = 8;
 
-// Where the frame ends, need-more, or a refusal's number and place.
-#[derive(Clone, Copy)]
-pub enum Header {
-    Frame(usize),
-    NeedMore,
-    Refused(u8, usize),
-}
-
-// The length's checks by a line: `line.2` is the smallest length, `line.3` the limit. The length word stands at `place`, and counts itself and all that
-// follows it; `have` bytes are there.
-fn frame_end(length: u32, line: Line, place: u8, have: usize) -> Header
-    ensures { result ≡ end_of line place have (signed_of 4 «length») }
+// Where the frame ends, by the length's checks by a line: `line.2` is the smallest length, `line.3` the limit. The length word stands at `place`, and counts
+// itself and all that follows it; `have` bytes are there.
+fn frame_end(length: u32, line: Line, place: u8, have: usize) -> Result<usize, Unread>
+    ensures { headed result ≡ end_of line place have (signed_of 4 «length») }
 {
     let place = place as usize;
     if LONGEST < length {
-        return Header::Refused(LENGTH_TOO_SMALL, place);
+        return Err(Unread::Refused(Refusal::LengthTooSmall.at(place)));
     }
     if length < line.2 {
-        return Header::Refused(LENGTH_TOO_SMALL, place);
+        return Err(Unread::Refused(Refusal::LengthTooSmall.at(place)));
     }
     if line.3 < length {
-        return Header::Refused(LENGTH_ABOVE_LIMIT, place);
+        return Err(Unread::Refused(Refusal::LengthAboveLimit.at(place)));
     }
     let end = place + (length as usize);
     if have < end {
-        return Header::NeedMore;
+        return Err(Unread::NeedMore);
     }
-    Header::Frame(end)
+    Ok(end)
 }
 
-// A frame with a type byte, then its length.
-pub fn typed(buf: &[u8], line: Line) -> Header
-    ensures { result ≡ end_in K.typed line buf.now }
+// The frame, of a type byte and then its length.
+pub fn typed(buf: &[u8], line: Line) -> Result<&[u8], Unread>
+    ensures { MatchResult result (λ f. Framed (end_in K.typed line buf.now) buf.now f.now) (λ u. unread u ≡ end_in K.typed line buf.now) }
 {
     let c = Cursor { at: 1 };
-    let Word::Is(length, _) = c.word(&*buf) else {
-        return Header::NeedMore;
+    let Some((length, _)) = c.word(buf) else {
+        return Err(Unread::NeedMore);
     };
-    frame_end(length, line, 1, buf.len())
+    let end = frame_end(length, line, 1, buf.len())?;
+    Ok(&buf[..end])
 }
 
-// A frame with its length, then a code.
-pub fn untyped(buf: &[u8], line: Line) -> Header
-    ensures { result ≡ end_in K.untyped line buf.now }
+// The frame, of its length and then a code.
+pub fn untyped(buf: &[u8], line: Line) -> Result<&[u8], Unread>
+    ensures { MatchResult result (λ f. Framed (end_in K.untyped line buf.now) buf.now f.now) (λ u. unread u ≡ end_in K.untyped line buf.now) }
 {
     if buf.len() < UNTYPED_BODY {
-        return Header::NeedMore;
+        return Err(Unread::NeedMore);
     }
     let c = Cursor { at: 0 };
-    let Word::Is(length, _) = c.word(&*buf) else {
-        return Header::NeedMore;
+    let Some((length, _)) = c.word(buf) else {
+        return Err(Unread::NeedMore);
     };
-    frame_end(length, line, 0, buf.len())
+    let end = frame_end(length, line, 0, buf.len())?;
+    Ok(&buf[..end])
 }
 
-// What is answered where no whole frame is there. (Nobody asks it of a whole one, of which nothing more is known.)
-pub fn unframed(header: Header) -> Decoded
-    ensures { result ≡ unframed_of header }
+// What begins at the cursor is cut by the frame's end.
+pub fn cut(c: Cursor) -> Unread
+    ensures { result ≡ U.Refused (record { refusal = R.Cut; place = c.at }) }
 {
-    match header {
-        Header::Refused(number, place) => Decoded::Refused(number, place),
-        _ => Decoded::NeedMore,
-    }
+    Unread::Refused(Refusal::Cut.at(c.at))
 }
 
 // After the last field: the record and the bytes consumed, or the first byte left over.
-pub fn finished(frame: &[u8], c: Cursor, message: Message) -> Decoded
-    ensures { result ≡ decoded_by (closed frame.now c.at message) (length frame.now) }
+pub fn finished(frame: &[u8], c: Cursor, message: Message) -> Result<(Message, usize), Unread>
+    ensures { decoded result ≡ decoded_by (closed frame.now c.at message) (length frame.now) }
 {
     let at = c.at;
     if at < frame.len() {
-        Decoded::Refused(BYTES_LEFT, at)
-    } else {
-        Decoded::Record(message, frame.len())
+        return Err(Unread::Refused(Refusal::BytesLeft.at(at)));
     }
-}
-
-// The refusal of a list. (Nobody asks it of a list that was read: that has no number, and its place is the next.)
-pub fn refused(listed: Listed) -> Decoded
-    ensures { result ≡ refusal_of listed }
-{
-    match listed {
-        Listed::Refused(number, place) => Decoded::Refused(number, place),
-        Listed::Is(_, c) => Decoded::Refused(0, c.at),
-    }
+    Ok((message, frame.len()))
 }
 
 // A kind with no field.
-pub fn fieldless(rules: Rules, buf: &[u8], line: Line, message: Message) -> Decoded
-    ensures { result ≡ decode_made rules K.typed line [] (λ _. message) buf.now }
+pub fn fieldless(
+    rules: Rules,
+    buf: &[u8],
+    line: Line,
+    message: Message,
+) -> Result<(Message, usize), Unread>
+    ensures { decoded result ≡ decode_made rules K.typed line [] (λ _. message) buf.now }
 {
-    let header = typed(&*buf, line);
-    let Header::Frame(end) = header else {
-        return unframed(header);
-    };
-    let frame = &buf[..end];
+    let frame = typed(buf, line)?;
     finished(frame, Cursor { at: TYPED_BODY }, message)
 }
