@@ -6,12 +6,13 @@ ghost use Rattle.std.specs.Prelude.{◌+◌, ◌≤◌, [], ◌++◌, ◌∷◌,
 ghost use Rattle.protocol.specs.Encode.{row_field_given};
 ghost use Rattle.protocol.specs.Fields.{item_bytes};
 ghost use Rattle.protocol.specs.Kinds.{row_field};
+ghost use Rattle.protocol.specs.Told.{encoded};
 ghost use Rattle.writers.specs.Writing.{Wrote};
 ghost use Rattle.row_fields.specs.Passes as P;
 
-use protocol::Encoded;
 use protocol::data::{FieldDescription, MESSAGE_TYPE_BYTE_ROW_DESCRITION};
 use protocol::kinds::{LARGE, MOST_SIGNED};
+use protocol::refusal::Refused;
 use writers::{bits16, bits32, no_zero, plus, put_half, put_head, put_pairs, put_text, verdict};
 
 // How far a pass is: the next byte's place, whether every name so far can be written, and whether the pass writes.
@@ -120,34 +121,24 @@ pub fn each(fields: &[FieldDescription], run: &[u8], out: &mut [u8], c: Pass) ->
 }
 
 // The answer to what was measured; where it is a number of bytes, the frame's head and the count are written.
-pub fn begin(measured: Pass, count: usize, out: &mut [u8]) -> Encoded
-    ensures { (result ≡ P.answered measured count (length out.old)) × (out.new ≡ P.begun result count out.old) }
+pub fn begin(measured: Pass, count: usize, out: &mut [u8]) -> Result<usize, Refused>
+    ensures { (encoded result ≡ P.answered measured count (length out.old)) × (out.new ≡ P.begun (encoded result) count out.old) }
 {
     let able = (count <= MOST_SIGNED) & measured.ok;
     let size = plus(measured.at, 6);
-    let r = verdict(able, LARGE, size, out.len());
-    let Encoded::Done(n) = r else {
-        return r;
-    };
+    let n = verdict(able, LARGE, size, out.len())?;
     let at = put_head(out, MESSAGE_TYPE_BYTE_ROW_DESCRITION, n);
     put_half(out, at, count as u16);
-    r
+    Ok(n)
 }
 
 // The second pass at its start: it writes where the answer is a number of bytes.
-pub fn writing_pass(r: Encoded) -> Pass
-    ensures { result ≡ P.writing_pass r }
+pub fn writing_pass(r: Result<usize, Refused>) -> Pass
+    ensures { result ≡ P.writing_pass (encoded r) }
 {
-    match r {
-        Encoded::Done(n) => Pass {
-            at: 7,
-            ok: true,
-            writing: true,
-        },
-        Encoded::Refused(number, place) => Pass {
-            at: 7,
-            ok: true,
-            writing: false,
-        },
+    Pass {
+        at: 7,
+        ok: true,
+        writing: r.is_ok(),
     }
 }

@@ -1,12 +1,15 @@
 -- `row_fields::writing_pass` meets its contract.
-use mathlib.Core.Path.{refl}
+use Rattle.std.proofs.Common.{Result, Ok, Err, true, ◌≡◌, refl, ℕ}
+use Rattle.std.specs.Prelude.{is_ok}
+use Rattle.protocol.specs.Told.{encoded}
+use Rattle.protocol.specs.declared.refusal.Refused.{Refused}
 use Rattle.row_fields.specs.Passes.{writing_pass}
 use Rattle.row_fields.proofs.writing_pass.Goals as goal
 
-pub returns-in-Done : goal.returns-in-Done
+by : (r : Result ℕ Refused) → record { at = 7; ok = true; writing = is_ok r } ≡ writing_pass (encoded r)
 unfolding writing_pass
-returns-in-Done c = rw c.in-Done.is refl
+by (Ok n) = refl
+by (Err e) = refl
 
-pub returns-in-Refused : goal.returns-in-Refused
-unfolding writing_pass
-returns-in-Refused c = rw c.in-Refused.is refl
+pub returns : goal.returns
+returns c = rw c.is_ok.ensures.value (by c.args.r)
