@@ -1,67 +1,46 @@
 -- A line by its place in a table, and the letters of its name.
-use Prim.Native.Nat.{ℕ, zero, suc, ◌<◌, ◌≤◌}
+use Prim.Native.Nat.{ℕ, zero, suc, ◌≤◌}
 use Prim.Native.String.{String, [] as end, ◌∷◌ as ◌then◌}
 use mathlib.Core.Bool.{Bool, true, false, cond, ◌&&◌}
 use mathlib.Core.List.{List, [], ◌∷◌}
 use mathlib.Core.Option.{some, none}
-use mathlib.Core.Path.{◌≡◌, refl, ap}
-use native.Mathlib.Nat.{le_of_suc-le-suc, not-suc-le-zero}
+use mathlib.Core.Path.{◌≡◌, refl, ap, sym}
 use native.Mathlib.Omega.{arith}
-use borrow.Author.Tests.{eq-eqb, ne_eqb}
 use lib.Dec.{T, eqb, eqb→eq}
-use lib.ListN.{length, get_or, take, drop}
+use lib.ListN.{length, take}
+use Rattle.std.specs.Prelude.{Option as Maybe, None, slice_get}
+use Rattle.std.specs.List.{position, position_or_len}
+use Rattle.std.specs.Option.{unwrap_or}
+use Rattle.std.proofs.lemmas.Grind.{common_steps}
+use Rattle.std.proofs.lemmas.List.Recursion.{is_position_or_len}
 use Rattle.protocol.specs.declared.Message.{Message}
 use Rattle.protocol.specs.declared.Rules.{Rules}
+use Rattle.protocol.specs.declared.kinds.Line.{Line}
 use Rattle.protocol.specs.Kinds.{Kind, Mode, modes, mode_of, the_table}
-use Rattle.protocol.specs.Lines.{filled, letters_in, lines_of, no_kind, line_in, line_at}
+use Rattle.protocol.specs.Lines.{filled, letters_in, lines_of, line_in, table_of, line_at, lined}
 use Rattle.protocol.specs.Names.{name_of, letters_of}
 use Rattle.protocol.proofs.Basics.{left_holds, right_holds}
 use Rattle.protocol.proofs.Find.{All}
 use Rattle.protocol.proofs.Views.{each_row}
 
--- what stands at a place of a list, whatever is said to stand behind it
-pub there : {A : Type 0} (xs : List A) (i : ℕ) (d e : A) → i < length xs → get_or xs i d ≡ get_or xs i e
-there [] i d e h = absurd (not-suc-le-zero h)
-there (x ∷ xs) zero d e h = refl
-there (x ∷ xs) (suc i) d e h = there xs i d e (le_of_suc-le-suc h)
+-- what the code answers of a place of a table is the line there
+lined_in : (ls : List Line) (i : ℕ) → lined (slice_get ls i) ≡ line_in ls i
+lined_in [] i = refl
+lined_in (l ∷ ls) zero = refl
+lined_in (l ∷ ls) (suc i) = lined_in ls i
 
-pub behind : {A : Type 0} (xs : List A) (i : ℕ) (d : A) → length xs ≤ i → d ≡ get_or xs i d
-behind [] i d h = refl
-behind (x ∷ xs) zero d h = absurd (not-suc-le-zero h)
-behind (x ∷ xs) (suc i) d h = behind xs i d (le_of_suc-le-suc h)
+pub lined_there : (rules : Rules) (i : ℕ) {r : Maybe Line} → r ≡ slice_get (table_of rules) i → lined r ≡ line_at rules i
+unfolding line_at
+lined_there rules i e = rw e (lined_in (table_of rules) i)
 
 -- the table of the mode that the rules name
-pub of_mode : (rules : Rules) {m : Mode} (i : ℕ) → mode_of rules ≡ some m → line_in (lines_of m) i ≡ line_at rules i
-unfolding line_at
+pub of_mode : (rules : Rules) {m : Mode} (i : ℕ) → mode_of rules ≡ some m → slice_get (lines_of m) i ≡ slice_get (table_of rules) i
 of_mode rules i e = rw e refl
 
-pub of_none : (rules : Rules) (i : ℕ) → mode_of rules ≡ none → no_kind ≡ line_at rules i
-unfolding line_at
+pub of_none : (rules : Rules) (i : ℕ) → mode_of rules ≡ none → None ≡ slice_get (table_of rules) i
 of_none rules i e = rw e refl
 
 -- ---- the letters of a name
-
--- at a space no letter is left
-pub at_space : (cs : List ℕ) (n : ℕ) → n < length cs → get_or cs n 0 ≡ 32 → letters_in (drop n cs) ≡ 0
-unfolding letters_in
-at_space [] n h e = absurd (not-suc-le-zero h)
-at_space (c ∷ cs) zero h e = rw (eq-eqb c 32 e) refl
-at_space (c ∷ cs) (suc n) h e = at_space cs n (le_of_suc-le-suc h) e
-
--- at a letter one more than behind it
-pub at_letter : (cs : List ℕ) (n : ℕ) → n < length cs → (get_or cs n 0 ≡ 32 → ⊥) → letters_in (drop n cs) ≡ suc (letters_in (drop (suc n) cs))
-unfolding letters_in
-at_letter [] n h e = absurd (not-suc-le-zero h)
-at_letter (c ∷ cs) zero h e = rw (ne_eqb c 32 e) refl
-at_letter (c ∷ cs) (suc n) h e = at_letter cs n (le_of_suc-le-suc h) e
-
--- at the end none
-pub at_end_lem : (cs : List ℕ) (n : ℕ) → length cs ≤ n → letters_in (drop n cs) ≡ 0
-unfolding letters_in
-at_end_lem [] zero h = refl
-at_end_lem [] (suc n) h = refl
-at_end_lem (c ∷ cs) zero h = absurd (not-suc-le-zero h)
-at_end_lem (c ∷ cs) (suc n) h = at_end_lem cs n (le_of_suc-le-suc h)
 
 -- there are no more than the name has places
 pub not_more : (cs : List ℕ) → letters_in cs ≤ length cs
@@ -72,6 +51,14 @@ not_more (c ∷ cs) = by (eqb c 32) (not_more cs)
     by : (t : Bool) → letters_in cs ≤ length cs → cond t 0 (suc (letters_in cs)) ≤ suc (length cs)
     by true h = omega arith
     by false h = omega arith
+
+-- they are the place of the first space
+letters_before : (cs : List ℕ) → position_or_len (λ c. eqb c 32) cs ≡ letters_in cs
+unfolding letters_in
+letters_before cs = sym (is_position_or_len letters_in (λ c. eqb c 32) refl (λ c cs. ap (cond (eqb c 32) 0) (omega arith)) cs)
+
+pub letters_found : (cs : List ℕ) (n : ℕ) {r : Maybe ℕ} → r ≡ position (λ c. eqb c 32) cs → length cs ≡ n → unwrap_or r n ≡ letters_in cs
+letters_found cs n e h = grind (arith, common_steps, letters_before cs, not_more cs)
 
 pub filled-length : (n : ℕ) (name : String) → length (filled n name) ≡ n
 filled-length zero name = refl

@@ -2,6 +2,7 @@
 use Prim.Native.Char.{code}
 use Rattle.std.specs.Prelude.{ℕ, zero, suc, cond, List, [], ◌∷◌, map, eqb, get_or}
 use Prim.Native.String.{String, [] as end, ◌∷◌ as ◌then◌}
+use Rattle.std.specs.Prelude.{Option as Maybe, Some, None}
 use Rattle.std.proofs.Math.Option.{Option, some, none}
 use Rattle.protocol.specs.declared.Rules.{Rules}
 use Rattle.protocol.specs.declared.kinds.Line.{Line}
@@ -34,10 +35,18 @@ no_kind = record { 0 = filled 20 ""; 1 = 0; 2 = 0; 3 = 0; 4 = 0 }
 abbrev pub line_in : List Line → ℕ → Line
 line_in ls i = get_or ls i no_kind
 
--- and of a mode's table, which an unknown mode does not have
+-- a mode's table, which an unknown mode does not have
 abbrev lines_by : Option Mode → List Line
 lines_by none = []
 lines_by (some m) = lines_of m
 
+abbrev pub table_of : Rules → List Line
+table_of rules = lines_by (mode_of rules)
+
 unfoldable pub line_at : Rules → ℕ → Line
-line_at rules i = line_in (lines_by (mode_of rules)) i
+line_at rules i = line_in (table_of rules) i
+
+-- what the code answers of a line, in which none is what stands behind the last
+abbrev pub lined : Maybe Line → Line
+lined (Some l) = l
+lined None = no_kind

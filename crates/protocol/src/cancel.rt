@@ -1,7 +1,7 @@
 // The request to cancel, as in cancel.rs. The secret key has four bytes.
 use crate::kinds;
 
-#[derive(Clone, Copy)]
+#[derive(Clone, Copy, Debug, PartialEq, Eq)]
 pub struct CancelRequest {
     pub pid: i32,
     pub secret_key: i32,

@@ -13,29 +13,29 @@ pub const MESSAGE_TYPE_BYTE_COPY_OUT_RESPONSE: u8 = kinds::COPY_OUT_RESPONSE.1 a
 
 pub const MESSAGE_TYPE_BYTE_COPY_BOTH_RESPONSE: u8 = kinds::COPY_BOTH_RESPONSE.1 as u8;
 
-#[derive(Clone, Copy)]
+#[derive(Clone, Copy, Debug, PartialEq, Eq)]
 pub struct CopyData {
     pub data: Span,
 }
 
-#[derive(Clone, Copy)]
+#[derive(Clone, Copy, Debug, PartialEq, Eq)]
 pub struct CopyFail {
     pub message: Span,
 }
 
-#[derive(Clone, Copy)]
+#[derive(Clone, Copy, Debug, PartialEq, Eq)]
 pub struct CopyInResponse {
     pub format: i8,
     pub column_formats: List,
 }
 
-#[derive(Clone, Copy)]
+#[derive(Clone, Copy, Debug, PartialEq, Eq)]
 pub struct CopyOutResponse {
     pub format: i8,
     pub column_formats: List,
 }
 
-#[derive(Clone, Copy)]
+#[derive(Clone, Copy, Debug, PartialEq, Eq)]
 pub struct CopyBothResponse {
     pub format: i8,
     pub column_formats: List,

@@ -16,7 +16,7 @@ pub const FORMAT_CODE_BINARY: i16 = 1;
 // One field of a RowDescription. Decoded, its name stands in the frame; for encoding, in the lent run of name bytes.
 // A host lends a slice of them, so their layout, and their names', is C's.
 #[repr(C)]
-#[derive(Clone, Copy)]
+#[derive(Clone, Copy, Debug, PartialEq, Eq)]
 pub struct FieldDescription {
     pub name: Span,
     pub table_id: i32,
@@ -27,18 +27,18 @@ pub struct FieldDescription {
     pub format_code: i16,
 }
 
-#[derive(Clone, Copy)]
+#[derive(Clone, Copy, Debug, PartialEq, Eq)]
 pub struct RowDescription {
     pub fields: List,
 }
 
-#[derive(Clone, Copy)]
+#[derive(Clone, Copy, Debug, PartialEq, Eq)]
 pub struct ParameterDescription {
     pub types: List,
 }
 
 // The Rust's data and field_count are the list's start and count.
-#[derive(Clone, Copy)]
+#[derive(Clone, Copy, Debug, PartialEq, Eq)]
 pub struct DataRow {
     pub data: List,
 }

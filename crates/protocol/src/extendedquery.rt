@@ -35,21 +35,17 @@ pub const TARGET_TYPE_BYTE_PORTAL: u8 = b'P';
 pub fn is_target(byte: u8) -> bool
     ensures { result ≡ is_one_of byte targets }
 {
-    match byte {
-        TARGET_TYPE_BYTE_STATEMENT => true,
-        TARGET_TYPE_BYTE_PORTAL => true,
-        _ => false,
-    }
+    matches!(byte, TARGET_TYPE_BYTE_STATEMENT | TARGET_TYPE_BYTE_PORTAL)
 }
 
-#[derive(Clone, Copy)]
+#[derive(Clone, Copy, Debug, PartialEq, Eq)]
 pub struct Parse {
     pub name: Span,
     pub query: Span,
     pub type_oids: List,
 }
 
-#[derive(Clone, Copy)]
+#[derive(Clone, Copy, Debug, PartialEq, Eq)]
 pub struct Bind {
     pub portal_name: Span,
     pub statement_name: Span,
@@ -58,19 +54,19 @@ pub struct Bind {
     pub result_column_format_codes: List,
 }
 
-#[derive(Clone, Copy)]
+#[derive(Clone, Copy, Debug, PartialEq, Eq)]
 pub struct Close {
     pub target_type: u8,
     pub name: Span,
 }
 
-#[derive(Clone, Copy)]
+#[derive(Clone, Copy, Debug, PartialEq, Eq)]
 pub struct Describe {
     pub target_type: u8,
     pub name: Span,
 }
 
-#[derive(Clone, Copy)]
+#[derive(Clone, Copy, Debug, PartialEq, Eq)]
 pub struct Execute {
     pub name: Span,
     pub max_rows: i32,

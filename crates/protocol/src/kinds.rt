@@ -10,8 +10,9 @@ pub const LARGE: u32 = 1048576;
 
 pub const SMALL: u32 = 8192;
 
-// A line, of the parts named above. The name is filled up with spaces.
-#[derive(Clone, Copy)]
+// A line, of the parts named above. It has no field names, and its name is filled up with spaces in place of a slice, so that a table's line is one
+// line for the eye, with its parts in columns.
+#[derive(Clone, Copy, Debug, PartialEq, Eq)]
 pub struct Line(pub [u8; 20], pub u32, pub u32, pub u32, pub u8);
 
 // ---- from the frontend, mode 0

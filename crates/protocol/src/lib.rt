@@ -31,28 +31,28 @@ use startup::{BackendKeyData, ParameterStatus, Startup};
 // A string, a value or a rest: its first byte, counted from the frame's first, and its length. A string's zero byte and a
 // value's length word are not part of it.
 #[repr(C)]
-#[derive(Clone, Copy)]
+#[derive(Clone, Copy, Debug, PartialEq, Eq)]
 pub struct Span {
     pub start: usize,
     pub len: usize,
 }
 
 // A list: where its first element stands, or would stand where it is empty, and how many it has.
-#[derive(Clone, Copy)]
+#[derive(Clone, Copy, Debug, PartialEq, Eq)]
 pub struct List {
     pub start: usize,
     pub count: usize,
 }
 
 // How the two bytes of a list's count are read. A list's row says which.
-#[derive(Clone, Copy)]
+#[derive(Clone, Copy, Debug, PartialEq, Eq)]
 pub enum Count {
     Signed,
     Unsigned,
 }
 
 // What a frame is read by: the mode. A version or a check of texts is a further field here.
-#[derive(Clone, Copy)]
+#[derive(Clone, Copy, Debug, PartialEq, Eq)]
 pub struct Rules {
     pub mode: u8,
 }
@@ -65,7 +65,7 @@ pub fn rules_of(mode: u8) -> Rules
 
 // A message, under the Rust's names. The kinds with no field hold nothing. The variants stand in the order of the kinds' numbers (specs Kinds), by which
 // proofs know their places.
-#[derive(Clone, Copy)]
+#[derive(Clone, Copy, Debug, PartialEq, Eq)]
 pub enum Message {
     Parse(Parse),
     Bind(Bind),
@@ -107,7 +107,7 @@ pub enum Message {
 }
 
 // An element of a list.
-#[derive(Clone, Copy)]
+#[derive(Clone, Copy, Debug, PartialEq, Eq)]
 pub enum Element {
     Oid(u32),
     Format(i16),

@@ -27,35 +27,33 @@ pub const READY_STATUS_FAILED_TRANSACTION_BLOCK: u8 = b'E';
 pub fn is_status(byte: u8) -> bool
     ensures { result ≡ is_one_of byte statuses }
 {
-    match byte {
-        READY_STATUS_IDLE => true,
-        READY_STATUS_TRANSACTION_BLOCK => true,
-        READY_STATUS_FAILED_TRANSACTION_BLOCK => true,
-        _ => false,
-    }
+    matches!(
+        byte,
+        READY_STATUS_IDLE | READY_STATUS_TRANSACTION_BLOCK | READY_STATUS_FAILED_TRANSACTION_BLOCK
+    )
 }
 
-#[derive(Clone, Copy)]
+#[derive(Clone, Copy, Debug, PartialEq, Eq)]
 pub struct CommandComplete {
     pub tag: Span,
 }
 
-#[derive(Clone, Copy)]
+#[derive(Clone, Copy, Debug, PartialEq, Eq)]
 pub struct ReadyForQuery {
     pub status: u8,
 }
 
-#[derive(Clone, Copy)]
+#[derive(Clone, Copy, Debug, PartialEq, Eq)]
 pub struct ErrorResponse {
     pub fields: List,
 }
 
-#[derive(Clone, Copy)]
+#[derive(Clone, Copy, Debug, PartialEq, Eq)]
 pub struct NoticeResponse {
     pub fields: List,
 }
 
-#[derive(Clone, Copy)]
+#[derive(Clone, Copy, Debug, PartialEq, Eq)]
 pub struct NotificationResponse {
     pub pid: i32,
     pub channel: Span,
@@ -63,7 +61,7 @@ pub struct NotificationResponse {
 }
 
 // The answer to a request for TLS: one byte and nothing else.
-#[derive(Clone, Copy)]
+#[derive(Clone, Copy, Debug, PartialEq, Eq)]
 pub enum SslResponse {
     Accept,
     Refuse,
@@ -78,7 +76,7 @@ impl SslResponse {
 }
 
 // The answer to a request for GSS encryption: one byte and nothing else.
-#[derive(Clone, Copy)]
+#[derive(Clone, Copy, Debug, PartialEq, Eq)]
 pub enum GssEncResponse {
     Accept,
     Refuse,

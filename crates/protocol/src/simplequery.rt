@@ -3,7 +3,7 @@ use crate::{Span, kinds};
 
 pub const MESSAGE_TYPE_BYTE_QUERY: u8 = kinds::QUERY.1 as u8;
 
-#[derive(Clone, Copy)]
+#[derive(Clone, Copy, Debug, PartialEq, Eq)]
 pub struct Query {
     pub query: Span,
 }

@@ -1,93 +1,32 @@
 // The tables of kinds line by line, for programs: what the table at a place says.
 // Inner: for crates of this library alone (docs/INNER.md).
-ghost use Rattle.std.specs.Prelude.{◌≡◌};
-ghost use Rattle.protocol.specs.Kinds as K;
-ghost use Rattle.protocol.specs.Lines.{letters_in, line_at, line_in, lines_of};
+ghost use Rattle.std.specs.Prelude.{◌≡◌, slice_get};
+ghost use Rattle.protocol.specs.Lines.{letters_in, line_at, lined, table_of};
 ghost use Rattle.protocol.specs.Rules.{rules_of};
 
 use crate::kinds::{BACKEND, CANCEL, FIRST_PACKET, FRONTEND, GSS_ANSWER, Line, TLS_ANSWER};
+use crate::mode::Mode;
 
-// What stands behind a table's last line: a line of no kind, since no kind has the number 0.
-pub const NO_KIND: Line = Line([b' '; 20], 0, 0, 0, 0);
-
-fn frontend(index: usize) -> Line
-    ensures { result ≡ line_in (lines_of K.frontend) index }
+fn line_in(table: &[Line], index: usize) -> Option<Line>
+    ensures { result ≡ slice_get table.now index }
 {
-    let table = FRONTEND;
-    if index < table.len() {
-        table[index]
-    } else {
-        NO_KIND
-    }
+    table.get(index).copied()
 }
 
-fn backend(index: usize) -> Line
-    ensures { result ≡ line_in (lines_of K.backend) index }
+// The line at a place of a mode's table, counted from 0: none behind the last, and none where the mode is unknown. The clause `line` says the same with
+// the line of no kind in place of none.
+pub fn line_at(mode: u8, index: usize) -> Option<Line>
+    ensures there { result ≡ slice_get (table_of (rules_of mode)) index }
+    ensures line { lined result ≡ line_at (rules_of mode) index }
 {
-    let table = BACKEND;
-    if index < table.len() {
-        table[index]
-    } else {
-        NO_KIND
-    }
-}
-
-fn cancel(index: usize) -> Line
-    ensures { result ≡ line_in (lines_of K.cancel) index }
-{
-    let table = CANCEL;
-    if index < table.len() {
-        table[index]
-    } else {
-        NO_KIND
-    }
-}
-
-fn tls_answer(index: usize) -> Line
-    ensures { result ≡ line_in (lines_of K.tls_answer) index }
-{
-    let table = TLS_ANSWER;
-    if index < table.len() {
-        table[index]
-    } else {
-        NO_KIND
-    }
-}
-
-fn gss_answer(index: usize) -> Line
-    ensures { result ≡ line_in (lines_of K.gss_answer) index }
-{
-    let table = GSS_ANSWER;
-    if index < table.len() {
-        table[index]
-    } else {
-        NO_KIND
-    }
-}
-
-fn first_packet(index: usize) -> Line
-    ensures { result ≡ line_in (lines_of K.first_packet) index }
-{
-    let table = FIRST_PACKET;
-    if index < table.len() {
-        table[index]
-    } else {
-        NO_KIND
-    }
-}
-
-// The line at a place of a mode's table, counted from 0.
-pub fn line_at(mode: u8, index: usize) -> Line
-    ensures { result ≡ line_at (rules_of mode) index }
-{
-    match mode {
-        0 => frontend(index),
-        1 => backend(index),
-        2 => cancel(index),
-        3 => tls_answer(index),
-        4 => gss_answer(index),
-        5 => first_packet(index),
-        _ => NO_KIND,
+    match Mode::try_from(mode) {
+        Ok(Mode::Frontend) => line_in(&FRONTEND, index),
+        Ok(Mode::Backend) => line_in(&BACKEND, index),
+        Ok(Mode::CancelRequest) => line_in(&CANCEL, index),
+        Ok(Mode::TlsAnswer) => line_in(&TLS_ANSWER, index),
+        Ok(Mode::GssAnswer) => line_in(&GSS_ANSWER, index),
+        Ok(Mode::FirstPacket) => line_in(&FIRST_PACKET, index),
+        Err(_) => None,
     }
 }
 
@@ -95,12 +34,7 @@ pub fn line_at(mode: u8, index: usize) -> Line
 pub fn letters_in(name: [u8; 20]) -> usize
     ensures { result ≡ letters_in name }
 {
-    let mut n = 0;
-    while n < 20 {
-        if name[n] == b' ' {
-            return n;
-        }
-        n += 1;
-    }
-    n
+    name.iter()
+        .position(|letter| *letter == b' ')
+        .unwrap_or(name.len())
 }

@@ -1,17 +1,14 @@
--- `protocol::tables::letters_in` meets its contract.
-use Rattle.std.proofs.Common.{rules, suc, ◌+◌, ◌≡◌, arith}
-use Rattle.protocol.proofs.Lines.{at_space, at_letter, at_end_lem}
+-- `protocol::tables::letters_in` meets its contract: the place of the first space.
+use Rattle.std.proofs.Common.{rules, ◌≡◌, length, ◌∙◌}
+use Rattle.std.proofs.lemmas.Iterator.{YieldsList-from_slice}
+use Rattle.std.proofs.lemmas.Iterator.Search.{position_from_yields_List}
+use borrow.Author.Tests.{tests}
+use Rattle.protocol.proofs.Lines.{letters_found}
 use Rattle.protocol.proofs.tables.letters_in.Goals as goal
 
-pub returns-then-name-n-eq32 : goal.returns-then-name-n-eq32
-returns-then-name-n-eq32 c = let l = c.loop-n in omega (arith, l.invariant.1, at_space c.args.name l.n (search rules) c.if-name-n-eq32.true)
-
-pub loop-n-preserved : goal.loop-n-preserved
-loop-n-preserved c =
-    let l = c.loop-n in
-    let next : suc l.n ≡ l.n + 1 = omega arith in
-    let more = rw next at (at_letter c.args.name l.n (search rules) c.if-name-n-eq32.false) in
-    (omega (arith, c.loop-n-test.true), omega (arith, l.invariant.1, more))
-
 pub returns : goal.returns
-returns c = let l = c.loop-n in omega (arith, l.invariant.1, at_end_lem c.args.name l.n (search rules))
+returns c =
+    let n : length c.args.name ≡ 20 = search rules in
+    let chain = YieldsList-from_slice c.args.name (cc) in
+    let p = position_from_yields_List _ _ _ c.position.result c.position.ensures.ran chain (λ x b q k. search (rules, tests)) in
+    c.unwrap_or.ensures ∙ letters_found c.args.name 20 p n

@@ -1,35 +1,55 @@
--- `protocol::tables::line_at` meets its contract: each arm is a mode.
-use Rattle.std.proofs.Common.{rules, ◌∙◌}
+-- `protocol::tables::line_at` meets its contract: each arm is a mode, whose table is the rows' lines, which computes.
+use Rattle.std.proofs.Common.{rules, ◌∙◌, sym}
 use Rattle.protocol.specs.Kinds.{find, the_table}
 use Rattle.protocol.specs.Rules.{rules_of}
 use Rattle.protocol.proofs.Find.{mode_is, no_mode}
-use Rattle.protocol.proofs.Lines.{of_mode, of_none}
+use Rattle.protocol.proofs.Lines.{lined_there, of_mode, of_none}
 use Rattle.protocol.proofs.tables.line_at.Goals as goal
 
-pub returns-in-0 : goal.returns-in-0
+pub returns-in-Ok-Frontend : goal.returns-in-Ok-Frontend
 unfolding find the_table
-returns-in-0 c = c.frontend.ensures ∙ of_mode (rules_of c.args.mode) _ (mode_is _ c.in-0.is)
+returns-in-Ok-Frontend c =
+    let k = c.in-Ok-Frontend in
+    let h = c.line_in.ensures ∙ of_mode (rules_of c.args.mode) _ (mode_is _ (sym (rw k.field-0-is at k.ensures))) in
+    record { there = h; line = lined_there _ _ h }
 
-pub returns-in-1 : goal.returns-in-1
+pub returns-in-Ok-Backend : goal.returns-in-Ok-Backend
 unfolding find the_table
-returns-in-1 c = c.backend.ensures ∙ of_mode (rules_of c.args.mode) _ (mode_is _ c.in-1.is)
+returns-in-Ok-Backend c =
+    let k = c.in-Ok-Backend in
+    let h = c.line_in-in-Ok-Backend.ensures ∙ of_mode (rules_of c.args.mode) _ (mode_is _ (sym (rw k.field-0-is at k.ensures))) in
+    record { there = h; line = lined_there _ _ h }
 
-pub returns-in-2 : goal.returns-in-2
+pub returns-in-Ok-CancelRequest : goal.returns-in-Ok-CancelRequest
 unfolding find the_table
-returns-in-2 c = c.cancel.ensures ∙ of_mode (rules_of c.args.mode) _ (mode_is _ c.in-2.is)
+returns-in-Ok-CancelRequest c =
+    let k = c.in-Ok-CancelRequest in
+    let h = c.line_in-in-Ok-CancelRequest.ensures ∙ of_mode (rules_of c.args.mode) _ (mode_is _ (sym (rw k.field-0-is at k.ensures))) in
+    record { there = h; line = lined_there _ _ h }
 
-pub returns-in-3 : goal.returns-in-3
+pub returns-in-Ok-TlsAnswer : goal.returns-in-Ok-TlsAnswer
 unfolding find the_table
-returns-in-3 c = c.tls_answer.ensures ∙ of_mode (rules_of c.args.mode) _ (mode_is _ c.in-3.is)
+returns-in-Ok-TlsAnswer c =
+    let k = c.in-Ok-TlsAnswer in
+    let h = c.line_in-in-Ok-TlsAnswer.ensures ∙ of_mode (rules_of c.args.mode) _ (mode_is _ (sym (rw k.field-0-is at k.ensures))) in
+    record { there = h; line = lined_there _ _ h }
 
-pub returns-in-4 : goal.returns-in-4
+pub returns-in-Ok-GssAnswer : goal.returns-in-Ok-GssAnswer
 unfolding find the_table
-returns-in-4 c = c.gss_answer.ensures ∙ of_mode (rules_of c.args.mode) _ (mode_is _ c.in-4.is)
+returns-in-Ok-GssAnswer c =
+    let k = c.in-Ok-GssAnswer in
+    let h = c.line_in-in-Ok-GssAnswer.ensures ∙ of_mode (rules_of c.args.mode) _ (mode_is _ (sym (rw k.field-0-is at k.ensures))) in
+    record { there = h; line = lined_there _ _ h }
 
-pub returns-in-5 : goal.returns-in-5
+pub returns-in-Ok-FirstPacket : goal.returns-in-Ok-FirstPacket
 unfolding find the_table
-returns-in-5 c = c.first_packet.ensures ∙ of_mode (rules_of c.args.mode) _ (mode_is _ c.in-5.is)
+returns-in-Ok-FirstPacket c =
+    let k = c.in-Ok-FirstPacket in
+    let h = c.line_in-in-Ok-FirstPacket.ensures ∙ of_mode (rules_of c.args.mode) _ (mode_is _ (sym (rw k.field-0-is at k.ensures))) in
+    record { there = h; line = lined_there _ _ h }
 
-pub returns-in_default : goal.returns-in_default
+pub returns-in-Err : goal.returns-in-Err
 unfolding find the_table
-returns-in_default c = of_none (rules_of c.args.mode) _ (no_mode _ (search rules))
+returns-in-Err c =
+    let h = of_none (rules_of c.args.mode) c.args.index (no_mode _ (search rules)) in
+    record { there = h; line = lined_there _ _ h }
