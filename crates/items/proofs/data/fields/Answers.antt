@@ -1,18 +1,23 @@
 -- `items::data::fields` meets its contract: the count, then each field.
-use mathlib.Core.Path.{refl}
+use Rattle.std.proofs.Common.{refl}
+use Rattle.std.proofs.lemmas.Result.{err_from_is_err_and}
 use Rattle.protocol.specs.Each.{least_of_each}
 use Rattle.protocol.specs.Fields.{item_least}
 use Rattle.protocol.specs.Reading.{read_counted}
 use Rattle.items.proofs.data.fields.Goals as goal
 
-pub returns-in_default : goal.returns-in_default
+pub returns-in_err-list : goal.returns-in_err-list
 unfolding read_counted item_least least_of_each
-returns-in_default c = rw (← c.count-counted.ensures, c.in_default.is) refl
+returns-in_err-list c =
+    let p = err_from_is_err_and c.from_residual.result c.from_residual.ensures.1 in
+    rw (p.1, p.2, ← c.in_err-list.ensures) refl
 
-pub returns-in-To : goal.returns-in-To
+pub returns-in_err-c : goal.returns-in_err-c
 unfolding read_counted item_least least_of_each
-returns-in-To c = rw (← c.count-counted.ensures, c.in-Is.is, ← c.pass_fields.ensures, c.in-To.is) refl
+returns-in_err-c c =
+    let p = err_from_is_err_and c.from_residual-in_err-c.result c.from_residual-in_err-c.ensures.1 in
+    rw (p.1, p.2, ← c.in_ok-list.ensures, ← c.in_err-c.ensures) refl
 
-pub returns-in-Refused : goal.returns-in-Refused
+pub returns : goal.returns
 unfolding read_counted item_least least_of_each
-returns-in-Refused c = rw (← c.count-counted.ensures, c.in-Is.is, ← c.pass_fields.ensures, c.in-Refused.is) refl
+returns c = rw (← c.in_ok-list.ensures, ← c.in_ok-c.ensures) refl

@@ -1,82 +1,59 @@
--- `items::ended::items` meets its contract. The invariant: the list from here on, after the items passed, is the list from the start.
-use Prim.Native.Nat.{ℕ, ◌<◌}
-use mathlib.Core.List.{List}
-use mathlib.Core.Path.{◌≡◌, refl, ap, sym, ◌∙◌}
-use native.Mathlib.Numerals.{add-one}
-use native.Mathlib.Omega.{arith}
-use borrow.Author.Rules.{rules}
-use lib.ListN.{length}
-use Rattle.protocol.specs.declared.Rules.{Rules}
-use Rattle.protocol.specs.Reading.{got, read_number, pass_items, ended_from, read_ended}
-use Rattle.protocol.proofs.Ended.{Grows, error_grows, pair_grows, passed_grows, ended_cut, ended_zero, ended_bad, ended_more}
+-- `items::ended::items` meets its contract.
+use Rattle.std.proofs.Common.{refl, sym, ◌∙◌, add-one, arith}
+use Rattle.std.proofs.lemmas.Result.{err_from_is_err_and}
+use Rattle.protocol.specs.Reading.{read_ended}
+use Rattle.protocol.proofs.Ended.{ended_cut, ended_zero, ended_bad, ended_more}
 use Rattle.protocol.proofs.Numbers.{whole, not_whole}
-use Rattle.codec.specs.CursorRead.{byte_read, passed_read}
-use Rattle.items.specs.declared.ended.Item.TheVariants as I
-use Rattle.items.specs.declared.ended.Item.{Item}
-use Rattle.items.specs.ItemRead.{item_of, outcome_read}
+use Rattle.items.proofs.Passing.{passed, not_passed, further}
 use Rattle.items.proofs.ended.items.Goals as goal
-use Rattle.items.proofs.ended.items.Goals.{in_default, in-Is+then-first-eq0, in-Is+else-first-eq0+in-Refused, Joined-byte}
 
-grows : (item : Item) (rules : Rules) (f : List ℕ) → Grows rules (item_of item) f
-grows I.ErrorField rules f = error_grows rules f
-grows I.Pair rules f = pair_grows rules f
+pub returns-in_default : goal.returns-in_default
+unfolding read_ended
+returns-in_default g c =
+    let a = c.args in
+    let on = g.met.I.Item.grows a.rules a.frame.now in
+    let short = not_whole 1 _ _ _ _ (sym c.in_default.ensures) in
+    rw (c.at.ensures, ← ended_cut _ _ _ on _ _ short ∙ c.loop-first.invariant.same_list) refl
 
-pub loop-first-init : goal.loop-first-init
-loop-first-init c = (refl, omega arith)
+pub returns-then-first-eq0 : goal.returns-then-first-eq0
+unfolding read_ended
+returns-then-first-eq0 g c =
+    let a = c.args in
+    let on = g.met.I.Item.grows a.rules a.frame.now in
+    rw (← ended_zero _ _ _ on _ _ _ _ c.in-Some.ensures c.if-first-eq0.true ∙ c.loop-first.invariant.same_list) refl
+
+pub returns-in_err-next : goal.returns-in_err-next
+unfolding read_ended
+returns-in_err-next g c =
+    let a = c.args in
+    let i = g.I.Item.item in
+    let on = g.met.I.Item.grows a.rules a.frame.now in
+    let p = err_from_is_err_and c.from_residual.result c.from_residual.ensures.1 in
+    let cut = not_passed _ i _ _ i.element c.in_err-next.ensures in
+    rw (p.1, p.2, ← ended_bad _ _ _ on _ _ _ _ c.in-Some.ensures c.if-first-eq0.false _ _ cut ∙ c.loop-first.invariant.same_list) refl
 
 pub overflow_add-count : goal.overflow_add-count
-overflow_add-count c =
-    let passed : got tt c.in-To.next.at ≡ pass_items c.args.rules (item_of c.args.item) 1 c.args.frame.now c.loop-first.at = ap passed_read (sym c.in-To.is) ∙ c.pass_item.ensures in
-    let further : c.loop-first.at < c.in-To.next.at = let a = c.args in passed_grows a.rules (item_of a.item) a.frame.now (grows a.item a.rules a.frame.now) _ _ passed in
-    omega (arith, c.loop-first.invariant.1, further)
+overflow_add-count g c =
+    let a = c.args in
+    let i = g.I.Item.item in
+    let on = g.met.I.Item.grows a.rules a.frame.now in
+    omega (arith, c.loop-first.invariant.further, further a.rules i a.frame.now _ i.element on c.in_ok-next.ensures)
 
 pub loop-first-smaller : goal.loop-first-smaller
-loop-first-smaller c =
-    let first : got c.in-Is.first c.in-Is.after.at ≡ read_number 1 c.args.frame.now c.loop-first.at = ap (byte_read c.loop-first.at) (sym c.in-Is.is) ∙ c.byte.ensures in
-    let passed : got tt c.in-To.next.at ≡ pass_items c.args.rules (item_of c.args.item) 1 c.args.frame.now c.loop-first.at = ap passed_read (sym c.in-To.is) ∙ c.pass_item.ensures in
-    let further : c.loop-first.at < c.in-To.next.at = let a = c.args in passed_grows a.rules (item_of a.item) a.frame.now (grows a.item a.rules a.frame.now) _ _ passed in
-    let w = whole 1 _ _ _ _ (sym first) in
-    omega (arith, w.fits, w.next, further)
+loop-first-smaller g c =
+    let a = c.args in
+    let i = g.I.Item.item in
+    let on = g.met.I.Item.grows a.rules a.frame.now in
+    let w = whole 1 _ _ _ _ (sym c.in-Some.ensures) in
+    omega (arith, w.fits, w.next, further a.rules i a.frame.now _ i.element on c.in_ok-next.ensures)
 
 pub loop-first-preserved : goal.loop-first-preserved
-loop-first-preserved c =
-    let first : got c.in-Is.first c.in-Is.after.at ≡ read_number 1 c.args.frame.now c.loop-first.at = ap (byte_read c.loop-first.at) (sym c.in-Is.is) ∙ c.byte.ensures in
-    let passed : got tt c.in-To.next.at ≡ pass_items c.args.rules (item_of c.args.item) 1 c.args.frame.now c.loop-first.at = ap passed_read (sym c.in-To.is) ∙ c.pass_item.ensures in
-    let further : c.loop-first.at < c.in-To.next.at = let a = c.args in passed_grows a.rules (item_of a.item) a.frame.now (grows a.item a.rules a.frame.now) _ _ passed in
-    let a = c.args in (
-      rw (add-one c.loop-first.count) (ended_more a.rules (item_of a.item) a.frame.now (grows a.item a.rules a.frame.now) _ _ _ _ first c.if-first-eq0.false _ passed ∙ c.loop-first.invariant.0),
-      omega (arith, c.loop-first.invariant.1, further),
-    )
-
--- whichever way the loop was left, its outcome is the list's
-left : (c : Joined-byte) → outcome_read c.match-byte.outcome ≡ ended_from c.args.rules (item_of c.args.item) (length c.args.frame.now) c.args.frame.now c.args.c.at 0
-left c =
-    let q = c.loop-first in
+loop-first-preserved g c =
     let a = c.args in
-    let i = item_of a.item in
-    let f = a.frame.now in
-    let on = grows a.item a.rules f in
-    elim c.match-byte.branch [
-      | in_default w ↦
-          let short = not_whole 1 _ _ _ _ (sym c.byte.ensures ∙ ap (byte_read q.at) w.in_default.is) in
-          ap outcome_read w.outcome-is ∙ ended_cut a.rules i f on q.at q.count short ∙ q.invariant.0
-      | in-Is+then-first-eq0 w ↦
-          let first = ap (byte_read q.at) (sym w.in-Is.is) ∙ c.byte.ensures in
-          ap outcome_read w.outcome-is ∙ ended_zero a.rules i f on _ _ _ _ first w.if-first-eq0.true ∙ q.invariant.0
-      | in-Is+else-first-eq0+in-Refused w ↦
-          let first = ap (byte_read q.at) (sym w.in-Is.is) ∙ c.byte.ensures in
-          let cut = ap passed_read (sym w.in-Refused.is) ∙ w.pass_item.ensures in
-          ap outcome_read w.outcome-is ∙ ended_bad a.rules i f on _ _ _ _ first w.if-first-eq0.false _ _ cut ∙ q.invariant.0
-    ]
-
-pub returns-in-Ended : goal.returns-in-Ended
-unfolding read_ended
-returns-in-Ended c = rw (← left (goal.at.returns-in-Ended c).Joined-byte, c.in-Ended.is) refl
-
-pub returns-in-NoEnd : goal.returns-in-NoEnd
-unfolding read_ended
-returns-in-NoEnd c = rw (← left (goal.at.returns-in-NoEnd c).Joined-byte, c.in-NoEnd.is) refl
-
-pub returns-in-CutItem : goal.returns-in-CutItem
-unfolding read_ended
-returns-in-CutItem c = rw (← left (goal.at.returns-in-CutItem c).Joined-byte, c.in-CutItem.is) refl
+    let i = g.I.Item.item in
+    let on = g.met.I.Item.grows a.rules a.frame.now in
+    let past = passed _ i _ _ i.element c.in_ok-next.ensures in
+    record {
+      same_list = rw (add-one c.loop-first.count) (ended_more _ _ _ on _ _ _ _ c.in-Some.ensures c.if-first-eq0.false _ past ∙ c.loop-first.invariant.same_list);
+      further = omega (arith, c.loop-first.invariant.further, further a.rules i a.frame.now _ i.element on c.in_ok-next.ensures);
+    }

@@ -1,14 +1,13 @@
--- The loop of `items::ended::items`.
-use Prim.Native.Nat.{◌+◌, ◌-◌, ◌≤◌}
-use mathlib.Core.Path.{◌≡◌}
-use lib.ListN.{length}
+-- The loop of `items::ended::items`: the list from here on, after the items passed, is the list from the start, and each of them took a byte at least.
+use Rattle.std.proofs.Common.{◌≡◌, ◌+◌, ◌-◌, ◌≤◌, length}
 use Rattle.protocol.specs.Reading.{ended_from}
-use Rattle.items.specs.ItemRead.{item_of}
 use Rattle.items.proofs.ended.items.Given as goal
 
 abbrev pub invariant-loop-first : goal.invariant-loop-first
-invariant-loop-first l =
-    (ended_from l.rules (item_of l.item) (length l.frame) l.frame l.at l.count ≡ ended_from l.rules (item_of l.item) (length l.frame) l.frame l.initial.at l.initial.count) × (l.count + l.initial.at ≤ l.at)
+invariant-loop-first g l = record {
+  same_list : ended_from l.rules g.I.Item.item (length l.frame) l.frame l.c.at l.count ≡ ended_from l.rules g.I.Item.item (length l.frame) l.frame l.initial.c.at 0;
+  further : l.count + l.initial.c.at ≤ l.c.at;
+}
 
 abbrev pub decreases-loop-first : goal.decreases-loop-first
-decreases-loop-first l = length l.frame - l.at
+decreases-loop-first g l = length l.frame - l.c.at
