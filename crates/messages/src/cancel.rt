@@ -2,28 +2,25 @@
 ghost use Rattle.std.specs.Prelude.{◌≡◌};
 ghost use Rattle.protocol.specs.Decode.{decode_as};
 ghost use Rattle.protocol.specs.Kinds as K;
+ghost use Rattle.protocol.specs.Told.{decoded};
 
-use codec::{Cursor, Word, signed32};
-use envelope::{Header, UNTYPED_BODY, finished, unframed, untyped};
+use codec::{Cursor, signed32};
+use envelope::{cut, UNTYPED_BODY, finished, untyped};
 use protocol::cancel::CancelRequest;
-use protocol::refusal::CUT;
-use protocol::{Decoded, Message, Rules, kinds};
+use protocol::refusal::Unread;
+use protocol::{Message, Rules, kinds};
 
 // After the length and the code: the process and its key.
-pub fn cancel_request(rules: Rules, buf: &[u8]) -> Decoded
-    ensures { result ≡ decode_as rules K.untyped K.cancel_request buf.now }
+pub fn cancel_request(rules: Rules, buf: &[u8]) -> Result<(Message, usize), Unread>
+    ensures { decoded result ≡ decode_as rules K.untyped K.cancel_request buf.now }
 {
-    let header = untyped(&*buf, kinds::CANCEL_REQUEST);
-    let Header::Frame(end) = header else {
-        return unframed(header);
-    };
-    let frame = &buf[..end];
+    let frame = untyped(buf, kinds::CANCEL_REQUEST)?;
     let c = Cursor { at: UNTYPED_BODY };
-    let Word::Is(pid, c) = c.word(frame) else {
-        return Decoded::Refused(CUT, c.at);
+    let Some((pid, c)) = c.word(frame) else {
+        return Err(cut(c));
     };
-    let Word::Is(key, c) = c.word(frame) else {
-        return Decoded::Refused(CUT, c.at);
+    let Some((key, c)) = c.word(frame) else {
+        return Err(cut(c));
     };
     let request = CancelRequest {
         pid: signed32(pid),

@@ -2,47 +2,40 @@
 ghost use Rattle.std.specs.Prelude.{◌≡◌};
 ghost use Rattle.protocol.specs.Decode.{decode_as};
 ghost use Rattle.protocol.specs.Kinds as K;
+ghost use Rattle.protocol.specs.Told.{decoded};
 ghost use Rattle.envelope.specs.Steps.{decode_made};
 ghost use Rattle.messages.specs.Shared.{copy_fields, copy_message};
 
-use codec::{Byte, Cursor, Listed, Text, signed8};
-use envelope::{Header, TYPED_BODY, fieldless, finished, refused, typed, unframed};
+use codec::{Cursor, signed8};
+use envelope::{cut, TYPED_BODY, fieldless, finished, typed};
 use protocol::copy::{CopyBothResponse, CopyData, CopyFail, CopyInResponse, CopyOutResponse};
 use protocol::kinds::Line;
-use protocol::refusal::CUT;
-use protocol::{Count, Decoded, List, Message, Rules, kinds};
+use protocol::refusal::Unread;
+use protocol::{Count, List, Message, Rules, kinds};
 
-pub fn copy_data(rules: Rules, buf: &[u8]) -> Decoded
-    ensures { result ≡ decode_as rules K.typed K.copy_data buf.now }
+pub fn copy_data(rules: Rules, buf: &[u8]) -> Result<(Message, usize), Unread>
+    ensures { decoded result ≡ decode_as rules K.typed K.copy_data buf.now }
 {
-    let header = typed(&*buf, kinds::COPY_DATA);
-    let Header::Frame(end) = header else {
-        return unframed(header);
-    };
-    let frame = &buf[..end];
+    let frame = typed(buf, kinds::COPY_DATA)?;
     let c = Cursor { at: TYPED_BODY };
     let data = c.rest(frame);
     let end = Cursor { at: frame.len() };
     finished(frame, end, Message::CopyData(CopyData { data }))
 }
 
-pub fn copy_done(rules: Rules, buf: &[u8]) -> Decoded
-    ensures { result ≡ decode_as rules K.typed K.copy_done buf.now }
+pub fn copy_done(rules: Rules, buf: &[u8]) -> Result<(Message, usize), Unread>
+    ensures { decoded result ≡ decode_as rules K.typed K.copy_done buf.now }
 {
-    fieldless(rules, &*buf, kinds::COPY_DONE, Message::CopyDone)
+    fieldless(rules, buf, kinds::COPY_DONE, Message::CopyDone)
 }
 
-pub fn copy_fail(rules: Rules, buf: &[u8]) -> Decoded
-    ensures { result ≡ decode_as rules K.typed K.copy_fail buf.now }
+pub fn copy_fail(rules: Rules, buf: &[u8]) -> Result<(Message, usize), Unread>
+    ensures { decoded result ≡ decode_as rules K.typed K.copy_fail buf.now }
 {
-    let header = typed(&*buf, kinds::COPY_FAIL);
-    let Header::Frame(end) = header else {
-        return unframed(header);
-    };
-    let frame = &buf[..end];
+    let frame = typed(buf, kinds::COPY_FAIL)?;
     let c = Cursor { at: TYPED_BODY };
-    let Text::Is(message, c) = c.text(rules, frame) else {
-        return Decoded::Refused(CUT, c.at);
+    let Some((message, c)) = c.text(rules, frame) else {
+        return Err(cut(c));
     };
     finished(frame, c, Message::CopyFail(CopyFail { message }))
 }
@@ -75,40 +68,33 @@ fn copy_message(direction: Direction, format: i8, column_formats: List) -> Messa
 }
 
 // The body of the three responses.
-fn copy_response(rules: Rules, buf: &[u8], line: Line, direction: Direction) -> Decoded
-    ensures { result ≡ decode_made rules K.typed line copy_fields (copy_message direction) buf.now }
+fn copy_response(rules: Rules, buf: &[u8], line: Line, direction: Direction) -> Result<(Message, usize), Unread>
+    ensures { decoded result ≡ decode_made rules K.typed line copy_fields (copy_message direction) buf.now }
 {
-    let header = typed(&*buf, line);
-    let Header::Frame(end) = header else {
-        return unframed(header);
-    };
-    let frame = &buf[..end];
+    let frame = typed(buf, line)?;
     let c = Cursor { at: TYPED_BODY };
-    let Byte::Is(format, c) = c.byte(frame) else {
-        return Decoded::Refused(CUT, c.at);
+    let Some((format, c)) = c.byte(frame) else {
+        return Err(cut(c));
     };
-    let listed = c.formats(rules, Count::Signed, frame);
-    let Listed::Is(column_formats, c) = listed else {
-        return refused(listed);
-    };
+    let (column_formats, c) = c.formats(rules, Count::Signed, frame)?;
     let message = copy_message(direction, signed8(format), column_formats);
     finished(frame, c, message)
 }
 
-pub fn copy_in_response(rules: Rules, buf: &[u8]) -> Decoded
-    ensures { result ≡ decode_as rules K.typed K.copy_in_response buf.now }
+pub fn copy_in_response(rules: Rules, buf: &[u8]) -> Result<(Message, usize), Unread>
+    ensures { decoded result ≡ decode_as rules K.typed K.copy_in_response buf.now }
 {
-    copy_response(rules, &*buf, kinds::COPY_IN_RESPONSE, Direction::In)
+    copy_response(rules, buf, kinds::COPY_IN_RESPONSE, Direction::In)
 }
 
-pub fn copy_out_response(rules: Rules, buf: &[u8]) -> Decoded
-    ensures { result ≡ decode_as rules K.typed K.copy_out_response buf.now }
+pub fn copy_out_response(rules: Rules, buf: &[u8]) -> Result<(Message, usize), Unread>
+    ensures { decoded result ≡ decode_as rules K.typed K.copy_out_response buf.now }
 {
-    copy_response(rules, &*buf, kinds::COPY_OUT_RESPONSE, Direction::Out)
+    copy_response(rules, buf, kinds::COPY_OUT_RESPONSE, Direction::Out)
 }
 
-pub fn copy_both_response(rules: Rules, buf: &[u8]) -> Decoded
-    ensures { result ≡ decode_as rules K.typed K.copy_both_response buf.now }
+pub fn copy_both_response(rules: Rules, buf: &[u8]) -> Result<(Message, usize), Unread>
+    ensures { decoded result ≡ decode_as rules K.typed K.copy_both_response buf.now }
 {
-    copy_response(rules, &*buf, kinds::COPY_BOTH_RESPONSE, Direction::Both)
+    copy_response(rules, buf, kinds::COPY_BOTH_RESPONSE, Direction::Both)
 }

@@ -2,35 +2,29 @@
 ghost use Rattle.std.specs.Prelude.{◌≡◌};
 ghost use Rattle.protocol.specs.Decode.{decode_as};
 ghost use Rattle.protocol.specs.Kinds as K;
+ghost use Rattle.protocol.specs.Told.{decoded};
 ghost use Rattle.envelope.specs.Steps.{decode_made};
 ghost use Rattle.messages.specs.Shared.{aim_fields, aim_message};
 
-use codec::{Byte, Cursor, Listed, Text, Word, signed32};
-use envelope::{Header, TYPED_BODY, fieldless, finished, refused, typed, unframed};
+use codec::{Cursor, signed32};
+use envelope::{cut, TYPED_BODY, fieldless, finished, typed};
 use protocol::extendedquery::{Bind, Close, Describe, Execute, Parse, is_target};
 use protocol::kinds::Line;
-use protocol::refusal::{CUT, NOT_ALLOWED};
-use protocol::{Count, Decoded, Message, Rules, Span, kinds};
+use protocol::refusal::{Refusal, Unread};
+use protocol::{Count, Message, Rules, Span, kinds};
 
-pub fn parse(rules: Rules, buf: &[u8]) -> Decoded
-    ensures { result ≡ decode_as rules K.typed K.parse buf.now }
+pub fn parse(rules: Rules, buf: &[u8]) -> Result<(Message, usize), Unread>
+    ensures { decoded result ≡ decode_as rules K.typed K.parse buf.now }
 {
-    let header = typed(&*buf, kinds::PARSE);
-    let Header::Frame(end) = header else {
-        return unframed(header);
-    };
-    let frame = &buf[..end];
+    let frame = typed(buf, kinds::PARSE)?;
     let c = Cursor { at: TYPED_BODY };
-    let Text::Is(name, c) = c.text(rules, frame) else {
-        return Decoded::Refused(CUT, c.at);
+    let Some((name, c)) = c.text(rules, frame) else {
+        return Err(cut(c));
     };
-    let Text::Is(query, c) = c.text(rules, frame) else {
-        return Decoded::Refused(CUT, c.at);
+    let Some((query, c)) = c.text(rules, frame) else {
+        return Err(cut(c));
     };
-    let listed = c.oids(rules, Count::Unsigned, frame);
-    let Listed::Is(type_oids, c) = listed else {
-        return refused(listed);
-    };
+    let (type_oids, c) = c.oids(rules, Count::Unsigned, frame)?;
     let parse = Parse {
         name,
         query,
@@ -39,10 +33,10 @@ pub fn parse(rules: Rules, buf: &[u8]) -> Decoded
     finished(frame, c, Message::Parse(parse))
 }
 
-pub fn parse_complete(rules: Rules, buf: &[u8]) -> Decoded
-    ensures { result ≡ decode_as rules K.typed K.parse_complete buf.now }
+pub fn parse_complete(rules: Rules, buf: &[u8]) -> Result<(Message, usize), Unread>
+    ensures { decoded result ≡ decode_as rules K.typed K.parse_complete buf.now }
 {
-    fieldless(rules, &*buf, kinds::PARSE_COMPLETE, Message::ParseComplete)
+    fieldless(rules, buf, kinds::PARSE_COMPLETE, Message::ParseComplete)
 }
 
 // Which of the two kinds whose body is a target byte and a name.
@@ -62,66 +56,49 @@ fn aim_message(act: Act, target_type: u8, name: Span) -> Message
 }
 
 // The body of Close and Describe.
-fn aim(rules: Rules, buf: &[u8], line: Line, act: Act) -> Decoded
-    ensures { result ≡ decode_made rules K.typed line aim_fields (aim_message act) buf.now }
+fn aim(rules: Rules, buf: &[u8], line: Line, act: Act) -> Result<(Message, usize), Unread>
+    ensures { decoded result ≡ decode_made rules K.typed line aim_fields (aim_message act) buf.now }
 {
-    let header = typed(&*buf, line);
-    let Header::Frame(end) = header else {
-        return unframed(header);
-    };
-    let frame = &buf[..end];
+    let frame = typed(buf, line)?;
     let c = Cursor { at: TYPED_BODY };
-    let Byte::Is(target_type, c) = c.byte(frame) else {
-        return Decoded::Refused(CUT, c.at);
+    let Some((target_type, c)) = c.byte(frame) else {
+        return Err(cut(c));
     };
     if !is_target(target_type) {
-        return Decoded::Refused(NOT_ALLOWED, TYPED_BODY);
+        return Err(Unread::Refused(Refusal::NotAllowed.at(TYPED_BODY)));
     }
-    let Text::Is(name, c) = c.text(rules, frame) else {
-        return Decoded::Refused(CUT, c.at);
+    let Some((name, c)) = c.text(rules, frame) else {
+        return Err(cut(c));
     };
     finished(frame, c, aim_message(act, target_type, name))
 }
 
-pub fn close(rules: Rules, buf: &[u8]) -> Decoded
-    ensures { result ≡ decode_as rules K.typed K.close buf.now }
+pub fn close(rules: Rules, buf: &[u8]) -> Result<(Message, usize), Unread>
+    ensures { decoded result ≡ decode_as rules K.typed K.close buf.now }
 {
-    aim(rules, &*buf, kinds::CLOSE, Act::Close)
+    aim(rules, buf, kinds::CLOSE, Act::Close)
 }
 
-pub fn close_complete(rules: Rules, buf: &[u8]) -> Decoded
-    ensures { result ≡ decode_as rules K.typed K.close_complete buf.now }
+pub fn close_complete(rules: Rules, buf: &[u8]) -> Result<(Message, usize), Unread>
+    ensures { decoded result ≡ decode_as rules K.typed K.close_complete buf.now }
 {
-    fieldless(rules, &*buf, kinds::CLOSE_COMPLETE, Message::CloseComplete)
+    fieldless(rules, buf, kinds::CLOSE_COMPLETE, Message::CloseComplete)
 }
 
-pub fn bind(rules: Rules, buf: &[u8]) -> Decoded
-    ensures { result ≡ decode_as rules K.typed K.bind buf.now }
+pub fn bind(rules: Rules, buf: &[u8]) -> Result<(Message, usize), Unread>
+    ensures { decoded result ≡ decode_as rules K.typed K.bind buf.now }
 {
-    let header = typed(&*buf, kinds::BIND);
-    let Header::Frame(end) = header else {
-        return unframed(header);
-    };
-    let frame = &buf[..end];
+    let frame = typed(buf, kinds::BIND)?;
     let c = Cursor { at: TYPED_BODY };
-    let Text::Is(portal_name, c) = c.text(rules, frame) else {
-        return Decoded::Refused(CUT, c.at);
+    let Some((portal_name, c)) = c.text(rules, frame) else {
+        return Err(cut(c));
     };
-    let Text::Is(statement_name, c) = c.text(rules, frame) else {
-        return Decoded::Refused(CUT, c.at);
+    let Some((statement_name, c)) = c.text(rules, frame) else {
+        return Err(cut(c));
     };
-    let listed = c.formats(rules, Count::Unsigned, frame);
-    let Listed::Is(parameter_format_codes, c) = listed else {
-        return refused(listed);
-    };
-    let listed = c.values(rules, Count::Unsigned, frame);
-    let Listed::Is(parameters, c) = listed else {
-        return refused(listed);
-    };
-    let listed = c.formats(rules, Count::Unsigned, frame);
-    let Listed::Is(result_column_format_codes, c) = listed else {
-        return refused(listed);
-    };
+    let (parameter_format_codes, c) = c.formats(rules, Count::Unsigned, frame)?;
+    let (parameters, c) = c.values(rules, Count::Unsigned, frame)?;
+    let (result_column_format_codes, c) = c.formats(rules, Count::Unsigned, frame)?;
     let bind = Bind {
         portal_name,
         statement_name,
@@ -132,32 +109,28 @@ pub fn bind(rules: Rules, buf: &[u8]) -> Decoded
     finished(frame, c, Message::Bind(bind))
 }
 
-pub fn bind_complete(rules: Rules, buf: &[u8]) -> Decoded
-    ensures { result ≡ decode_as rules K.typed K.bind_complete buf.now }
+pub fn bind_complete(rules: Rules, buf: &[u8]) -> Result<(Message, usize), Unread>
+    ensures { decoded result ≡ decode_as rules K.typed K.bind_complete buf.now }
 {
-    fieldless(rules, &*buf, kinds::BIND_COMPLETE, Message::BindComplete)
+    fieldless(rules, buf, kinds::BIND_COMPLETE, Message::BindComplete)
 }
 
-pub fn describe(rules: Rules, buf: &[u8]) -> Decoded
-    ensures { result ≡ decode_as rules K.typed K.describe buf.now }
+pub fn describe(rules: Rules, buf: &[u8]) -> Result<(Message, usize), Unread>
+    ensures { decoded result ≡ decode_as rules K.typed K.describe buf.now }
 {
-    aim(rules, &*buf, kinds::DESCRIBE, Act::Describe)
+    aim(rules, buf, kinds::DESCRIBE, Act::Describe)
 }
 
-pub fn execute(rules: Rules, buf: &[u8]) -> Decoded
-    ensures { result ≡ decode_as rules K.typed K.execute buf.now }
+pub fn execute(rules: Rules, buf: &[u8]) -> Result<(Message, usize), Unread>
+    ensures { decoded result ≡ decode_as rules K.typed K.execute buf.now }
 {
-    let header = typed(&*buf, kinds::EXECUTE);
-    let Header::Frame(end) = header else {
-        return unframed(header);
-    };
-    let frame = &buf[..end];
+    let frame = typed(buf, kinds::EXECUTE)?;
     let c = Cursor { at: TYPED_BODY };
-    let Text::Is(name, c) = c.text(rules, frame) else {
-        return Decoded::Refused(CUT, c.at);
+    let Some((name, c)) = c.text(rules, frame) else {
+        return Err(cut(c));
     };
-    let Word::Is(word, c) = c.word(frame) else {
-        return Decoded::Refused(CUT, c.at);
+    let Some((word, c)) = c.word(frame) else {
+        return Err(cut(c));
     };
     let execute = Execute {
         name,
@@ -166,24 +139,24 @@ pub fn execute(rules: Rules, buf: &[u8]) -> Decoded
     finished(frame, c, Message::Execute(execute))
 }
 
-pub fn flush(rules: Rules, buf: &[u8]) -> Decoded
-    ensures { result ≡ decode_as rules K.typed K.flush buf.now }
+pub fn flush(rules: Rules, buf: &[u8]) -> Result<(Message, usize), Unread>
+    ensures { decoded result ≡ decode_as rules K.typed K.flush buf.now }
 {
-    fieldless(rules, &*buf, kinds::FLUSH, Message::Flush)
+    fieldless(rules, buf, kinds::FLUSH, Message::Flush)
 }
 
-pub fn sync(rules: Rules, buf: &[u8]) -> Decoded
-    ensures { result ≡ decode_as rules K.typed K.sync buf.now }
+pub fn sync(rules: Rules, buf: &[u8]) -> Result<(Message, usize), Unread>
+    ensures { decoded result ≡ decode_as rules K.typed K.sync buf.now }
 {
-    fieldless(rules, &*buf, kinds::SYNC, Message::Sync)
+    fieldless(rules, buf, kinds::SYNC, Message::Sync)
 }
 
-pub fn portal_suspended(rules: Rules, buf: &[u8]) -> Decoded
-    ensures { result ≡ decode_as rules K.typed K.portal_suspended buf.now }
+pub fn portal_suspended(rules: Rules, buf: &[u8]) -> Result<(Message, usize), Unread>
+    ensures { decoded result ≡ decode_as rules K.typed K.portal_suspended buf.now }
 {
     fieldless(
         rules,
-        &*buf,
+        buf,
         kinds::PORTAL_SUSPENDED,
         Message::PortalSuspended,
     )

@@ -2,24 +2,21 @@
 ghost use Rattle.std.specs.Prelude.{◌≡◌};
 ghost use Rattle.protocol.specs.Decode.{decode_as};
 ghost use Rattle.protocol.specs.Kinds as K;
+ghost use Rattle.protocol.specs.Told.{decoded};
 
-use codec::{Cursor, Text};
-use envelope::{Header, TYPED_BODY, finished, typed, unframed};
-use protocol::refusal::CUT;
+use codec::Cursor;
+use envelope::{cut, TYPED_BODY, finished, typed};
+use protocol::refusal::Unread;
 use protocol::simplequery::Query;
-use protocol::{Decoded, Message, Rules, kinds};
+use protocol::{Message, Rules, kinds};
 
-pub fn query(rules: Rules, buf: &[u8]) -> Decoded
-    ensures { result ≡ decode_as rules K.typed K.query buf.now }
+pub fn query(rules: Rules, buf: &[u8]) -> Result<(Message, usize), Unread>
+    ensures { decoded result ≡ decode_as rules K.typed K.query buf.now }
 {
-    let header = typed(&*buf, kinds::QUERY);
-    let Header::Frame(end) = header else {
-        return unframed(header);
-    };
-    let frame = &buf[..end];
+    let frame = typed(buf, kinds::QUERY)?;
     let c = Cursor { at: TYPED_BODY };
-    let Text::Is(query, c) = c.text(rules, frame) else {
-        return Decoded::Refused(CUT, c.at);
+    let Some((query, c)) = c.text(rules, frame) else {
+        return Err(cut(c));
     };
     finished(frame, c, Message::Query(Query { query }))
 }

@@ -2,12 +2,14 @@
 ghost use Rattle.std.specs.Prelude.{◌≡◌};
 ghost use Rattle.protocol.specs.Decode.{decode_as};
 ghost use Rattle.protocol.specs.Kinds as K;
+ghost use Rattle.protocol.specs.Told.{decoded};
 
 use envelope::fieldless;
-use protocol::{Decoded, Message, Rules, kinds};
+use protocol::refusal::Unread;
+use protocol::{Message, Rules, kinds};
 
-pub fn terminate(rules: Rules, buf: &[u8]) -> Decoded
-    ensures { result ≡ decode_as rules K.typed K.terminate buf.now }
+pub fn terminate(rules: Rules, buf: &[u8]) -> Result<(Message, usize), Unread>
+    ensures { decoded result ≡ decode_as rules K.typed K.terminate buf.now }
 {
-    fieldless(rules, &*buf, kinds::TERMINATE, Message::Terminate)
+    fieldless(rules, buf, kinds::TERMINATE, Message::Terminate)
 }

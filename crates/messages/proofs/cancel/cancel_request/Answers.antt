@@ -1,43 +1,26 @@
 -- `messages::cancel::cancel_request` meets its contract: at each point, what is left to read is what there was at first.
-use mathlib.Core.List.{[], ◌∷◌}
-use mathlib.Core.Path.{ap, sym, ◌∙◌}
-use lib.ListN.{take}
+use Rattle.std.proofs.lemmas.Result.{err_from_is_err_and}
 use mir.Syntax.{w32}
-use Rattle.protocol.specs.Bytes.{signed_of}
-use Rattle.protocol.specs.Decode.{decode_as}
-use Rattle.protocol.specs.Kinds.{untyped, i32, cancel_request}
-use Rattle.protocol.specs.Records as R
-use Rattle.protocol.proofs.OneByOne.{signed_got, signed_bad}
-use Rattle.codec.specs.CursorRead.{word_read}
+use Rattle.protocol.specs.Kinds.{untyped, cancel_request}
 use Rattle.protocol.proofs.Basics.{back}
-use Rattle.envelope.proofs.Points as P
-use Rattle.envelope.proofs.Points.{on, off, done, begin, none, ends}
+use Rattle.protocol.proofs.OneByOne.{signed_got, signed_bad}
+use Rattle.envelope.proofs.Points.{on, off, done, begin, none}
 use Rattle.messages.proofs.cancel.cancel_request.Goals as goal
+
+pub returns-in_err-frame : goal.returns-in_err-frame
+unfolding cancel_request
+returns-in_err-frame c = 
+    let p = err_from_is_err_and c.from_residual.result c.from_residual.ensures.1 in
+    rw (p.1, p.2) (none _ untyped cancel_request c.args.buf.now _ c.in_err-frame.ensures)
 
 pub returns-in_default : goal.returns-in_default
 unfolding cancel_request
-returns-in_default c = c.unframed.ensures ∙ none _ untyped cancel_request c.args.buf.now c.untyped-header.ensures c.in_default.not-Frame
-
-pub slice_bounds-frame-end : goal.slice_bounds-frame-end
-slice_bounds-frame-end c = sym (ends untyped _ c.args.buf.now c.untyped-header.ensures c.in-Frame.is)
+returns-in_default c = rw c.cut.ensures (off (begin _ untyped cancel_request _ c.in_ok-frame.ensures) (signed_bad 4 c.in_default.ensures))
 
 pub returns-in_default-word : goal.returns-in_default-word
 unfolding cancel_request
-returns-in_default-word c =
-    let left : (P.Left c.args.rules (take c.in-Frame.end c.args.buf.now) (decode_as c.args.rules untyped cancel_request c.args.buf.now)) cancel_request.body cancel_request.message 8 = begin _ untyped cancel_request _ c.untyped-header.ensures c.in-Frame.is in
-    off left (signed_bad 4 (ap (word_read 8) (sym c.in_default-word.is) ∙ c.word.ensures))
-
-pub returns-in_default-word-2 : goal.returns-in_default-word-2
-unfolding cancel_request
-returns-in_default-word-2 c =
-    let left : (P.Left c.args.rules (take c.in-Frame.end c.args.buf.now) (decode_as c.args.rules untyped cancel_request c.args.buf.now)) cancel_request.body cancel_request.message 8 = begin _ untyped cancel_request _ c.untyped-header.ensures c.in-Frame.is in
-    let left-2 : (P.Left c.args.rules (take c.in-Frame.end c.args.buf.now) (decode_as c.args.rules untyped cancel_request c.args.buf.now)) (i32 ∷ []) (λ ss. R.cancel_request (signed_of 4 c.in-Is.pid) ss.0) c.in-Is.c.at = on left (signed_got 4 (ap (word_read 8) (sym c.in-Is.is) ∙ c.word.ensures)) in
-    off left-2 (signed_bad 4 (ap (word_read c.in-Is.c.at) (sym c.in_default-word-2.is) ∙ c.word-2.ensures))
+returns-in_default-word c = rw c.cut-in_default-word.ensures (off (on (begin _ untyped cancel_request _ c.in_ok-frame.ensures) (signed_got 4 c.in-Some.ensures)) (signed_bad 4 c.in_default-word.ensures))
 
 pub returns : goal.returns
 unfolding cancel_request
-returns c =
-    let left : (P.Left c.args.rules (take c.in-Frame.end c.args.buf.now) (decode_as c.args.rules untyped cancel_request c.args.buf.now)) cancel_request.body cancel_request.message 8 = begin _ untyped cancel_request _ c.untyped-header.ensures c.in-Frame.is in
-    let left-2 : (P.Left c.args.rules (take c.in-Frame.end c.args.buf.now) (decode_as c.args.rules untyped cancel_request c.args.buf.now)) (i32 ∷ []) (λ ss. R.cancel_request (signed_of 4 c.in-Is.pid) ss.0) c.in-Is.c.at = on left (signed_got 4 (ap (word_read 8) (sym c.in-Is.is) ∙ c.word.ensures)) in
-    let left-3 : (P.Left c.args.rules (take c.in-Frame.end c.args.buf.now) (decode_as c.args.rules untyped cancel_request c.args.buf.now)) [] (λ _. R.cancel_request (signed_of 4 c.in-Is.pid) (signed_of 4 c.in-Is-word.key)) c.in-Is-word.c.at = on (left-2) (signed_got 4 (ap (word_read c.in-Is.c.at) (sym c.in-Is-word.is) ∙ c.word-2.ensures)) in
-    done left-3 (rw c.signed32-2.ensures at (rw (back w32 c.signed32-2.result c.signed32-2.type_inv) at (rw c.signed32.ensures at (rw (back w32 c.signed32.result c.signed32.type_inv) at c.finished.ensures))))
+returns c = done (on (on (begin _ untyped cancel_request _ c.in_ok-frame.ensures) (signed_got 4 c.in-Some.ensures)) (signed_got 4 c.in-Some-word.ensures)) (rw c.signed32-2.ensures at (rw (back w32 c.signed32-2.result c.signed32-2.type_inv) at (rw c.signed32.ensures at (rw (back w32 c.signed32.result c.signed32.type_inv) at c.finished.ensures))))

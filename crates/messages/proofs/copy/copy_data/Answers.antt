@@ -1,21 +1,15 @@
 -- `messages::copy::copy_data` meets its contract: at each point, what is left to read is what there was at first.
-use mathlib.Core.Path.{sym, ◌∙◌}
-use lib.ListN.{take}
-use Rattle.protocol.specs.Decode.{decode_as}
+use Rattle.std.proofs.lemmas.Result.{err_from_is_err_and}
 use Rattle.protocol.specs.Kinds.{typed, copy_data}
-use Rattle.envelope.proofs.Points as P
-use Rattle.envelope.proofs.Points.{on, done, begin, none, ends}
+use Rattle.envelope.proofs.Points.{on, off, done, begin, none}
 use Rattle.messages.proofs.copy.copy_data.Goals as goal
 
-pub returns-in_default : goal.returns-in_default
+pub returns-in_err-frame : goal.returns-in_err-frame
 unfolding copy_data
-returns-in_default c = c.unframed.ensures ∙ none _ typed copy_data c.args.buf.now c.typed-header.ensures c.in_default.not-Frame
-
-pub slice_bounds-frame-end : goal.slice_bounds-frame-end
-slice_bounds-frame-end c = sym (ends typed _ c.args.buf.now c.typed-header.ensures c.in-Frame.is)
+returns-in_err-frame c = 
+    let p = err_from_is_err_and c.from_residual.result c.from_residual.ensures.1 in
+    rw (p.1, p.2) (none _ typed copy_data c.args.buf.now _ c.in_err-frame.ensures)
 
 pub returns : goal.returns
 unfolding copy_data
-returns c =
-    let left : (P.Left c.args.rules (take c.in-Frame.end c.args.buf.now) (decode_as c.args.rules typed copy_data c.args.buf.now)) copy_data.body copy_data.message 5 = begin _ typed copy_data _ c.typed-header.ensures c.in-Frame.is in
-    done (on left c.rest-data.ensures) c.finished.ensures
+returns c = done (on (begin _ typed copy_data _ c.in_ok-frame.ensures) c.rest-data.ensures) c.finished.ensures

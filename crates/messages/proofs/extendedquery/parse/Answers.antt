@@ -1,50 +1,29 @@
 -- `messages::extendedquery::parse` meets its contract: at each point, what is left to read is what there was at first.
-use mathlib.Core.List.{[], ◌∷◌}
-use mathlib.Core.Path.{ap, sym, ◌∙◌}
-use lib.ListN.{take}
-use Rattle.protocol.specs.Decode.{decode_as}
-use Rattle.protocol.specs.Fields.{unsigned_count}
-use Rattle.protocol.specs.Kinds.{typed, oids, string, parse}
-use Rattle.protocol.specs.Records as R
-use Rattle.codec.specs.CursorRead.{listed_read, text_read}
-use Rattle.envelope.specs.Steps.{refusal_of}
-use Rattle.envelope.proofs.Points as P
-use Rattle.envelope.proofs.Points.{on, off, done, begin, none, ends}
+use Rattle.std.proofs.lemmas.Result.{err_from_is_err_and}
+use Rattle.protocol.specs.Kinds.{typed, parse}
+use Rattle.envelope.proofs.Points.{on, off, done, begin, none}
 use Rattle.messages.proofs.extendedquery.parse.Goals as goal
+
+pub returns-in_err-frame : goal.returns-in_err-frame
+unfolding parse
+returns-in_err-frame c = 
+    let p = err_from_is_err_and c.from_residual.result c.from_residual.ensures.1 in
+    rw (p.1, p.2) (none _ typed parse c.args.buf.now _ c.in_err-frame.ensures)
 
 pub returns-in_default : goal.returns-in_default
 unfolding parse
-returns-in_default c = c.unframed.ensures ∙ none _ typed parse c.args.buf.now c.typed-header.ensures c.in_default.not-Frame
-
-pub slice_bounds-frame-end : goal.slice_bounds-frame-end
-slice_bounds-frame-end c = sym (ends typed _ c.args.buf.now c.typed-header.ensures c.in-Frame.is)
+returns-in_default c = rw c.cut.ensures (off (begin _ typed parse _ c.in_ok-frame.ensures) c.in_default.ensures)
 
 pub returns-in_default-text : goal.returns-in_default-text
 unfolding parse
-returns-in_default-text c =
-    let left : (P.Left c.args.rules (take c.in-Frame.end c.args.buf.now) (decode_as c.args.rules typed parse c.args.buf.now)) parse.body parse.message 5 = begin _ typed parse _ c.typed-header.ensures c.in-Frame.is in
-    off left (ap (text_read 5) (sym c.in_default-text.is) ∙ c.text.ensures)
+returns-in_default-text c = rw c.cut-in_default-text.ensures (off (on (begin _ typed parse _ c.in_ok-frame.ensures) c.in-Some.ensures) c.in_default-text.ensures)
 
-pub returns-in_default-text-2 : goal.returns-in_default-text-2
+pub returns-in_err-type_oids : goal.returns-in_err-type_oids
 unfolding parse
-returns-in_default-text-2 c =
-    let left : (P.Left c.args.rules (take c.in-Frame.end c.args.buf.now) (decode_as c.args.rules typed parse c.args.buf.now)) parse.body parse.message 5 = begin _ typed parse _ c.typed-header.ensures c.in-Frame.is in
-    let left-2 : (P.Left c.args.rules (take c.in-Frame.end c.args.buf.now) (decode_as c.args.rules typed parse c.args.buf.now)) (string ∷ oids unsigned_count ∷ []) (λ ss. R.parse c.in-Is.name ss.0 ss.1.0) c.in-Is.c.at = on left (ap (text_read 5) (sym c.in-Is.is) ∙ c.text.ensures) in
-    off left-2 (ap (text_read c.in-Is.c.at) (sym c.in_default-text-2.is) ∙ c.text-2.ensures)
-
-pub returns-in_default-listed : goal.returns-in_default-listed
-unfolding parse
-returns-in_default-listed c =
-    let left : (P.Left c.args.rules (take c.in-Frame.end c.args.buf.now) (decode_as c.args.rules typed parse c.args.buf.now)) parse.body parse.message 5 = begin _ typed parse _ c.typed-header.ensures c.in-Frame.is in
-    let left-2 : (P.Left c.args.rules (take c.in-Frame.end c.args.buf.now) (decode_as c.args.rules typed parse c.args.buf.now)) (string ∷ oids unsigned_count ∷ []) (λ ss. R.parse c.in-Is.name ss.0 ss.1.0) c.in-Is.c.at = on left (ap (text_read 5) (sym c.in-Is.is) ∙ c.text.ensures) in
-    let left-3 : (P.Left c.args.rules (take c.in-Frame.end c.args.buf.now) (decode_as c.args.rules typed parse c.args.buf.now)) (oids unsigned_count ∷ []) (λ ss. R.parse c.in-Is.name c.in-Is-text.query ss.0) c.in-Is-text.c.at = on (left-2) (ap (text_read c.in-Is.c.at) (sym c.in-Is-text.is) ∙ c.text-2.ensures) in
-    c.refused.ensures ∙ ap refusal_of c.in_default-listed.is ∙ off left-3 (ap listed_read (sym c.in_default-listed.is) ∙ c.oids-listed.ensures)
+returns-in_err-type_oids c = 
+    let p = err_from_is_err_and c.from_residual-in_err-type_oids.result c.from_residual-in_err-type_oids.ensures.1 in
+    rw (p.1, p.2) (off (on (on (begin _ typed parse _ c.in_ok-frame.ensures) c.in-Some.ensures) c.in-Some-text.ensures) c.in_err-type_oids.ensures)
 
 pub returns : goal.returns
 unfolding parse
-returns c =
-    let left : (P.Left c.args.rules (take c.in-Frame.end c.args.buf.now) (decode_as c.args.rules typed parse c.args.buf.now)) parse.body parse.message 5 = begin _ typed parse _ c.typed-header.ensures c.in-Frame.is in
-    let left-2 : (P.Left c.args.rules (take c.in-Frame.end c.args.buf.now) (decode_as c.args.rules typed parse c.args.buf.now)) (string ∷ oids unsigned_count ∷ []) (λ ss. R.parse c.in-Is.name ss.0 ss.1.0) c.in-Is.c.at = on left (ap (text_read 5) (sym c.in-Is.is) ∙ c.text.ensures) in
-    let left-3 : (P.Left c.args.rules (take c.in-Frame.end c.args.buf.now) (decode_as c.args.rules typed parse c.args.buf.now)) (oids unsigned_count ∷ []) (λ ss. R.parse c.in-Is.name c.in-Is-text.query ss.0) c.in-Is-text.c.at = on (left-2) (ap (text_read c.in-Is.c.at) (sym c.in-Is-text.is) ∙ c.text-2.ensures) in
-    let left-4 : (P.Left c.args.rules (take c.in-Frame.end c.args.buf.now) (decode_as c.args.rules typed parse c.args.buf.now)) [] (λ _. R.parse c.in-Is.name c.in-Is-text.query c.in-Is-listed.type_oids) c.in-Is-listed.c.at = on (left-3) (ap listed_read (sym c.in-Is-listed.is) ∙ c.oids-listed.ensures) in
-    done left-4 c.finished.ensures
+returns c = done (on (on (on (begin _ typed parse _ c.in_ok-frame.ensures) c.in-Some.ensures) c.in-Some-text.ensures) c.in_ok-type_oids.ensures) c.finished.ensures

@@ -1,39 +1,23 @@
 -- `messages::startup::parameter_status` meets its contract: at each point, what is left to read is what there was at first.
-use mathlib.Core.List.{[], ◌∷◌}
-use mathlib.Core.Path.{ap, sym, ◌∙◌}
-use lib.ListN.{take}
-use Rattle.protocol.specs.Decode.{decode_as}
-use Rattle.protocol.specs.Kinds.{typed, string, parameter_status}
-use Rattle.protocol.specs.Records as R
-use Rattle.codec.specs.CursorRead.{text_read}
-use Rattle.envelope.proofs.Points as P
-use Rattle.envelope.proofs.Points.{on, off, done, begin, none, ends}
+use Rattle.std.proofs.lemmas.Result.{err_from_is_err_and}
+use Rattle.protocol.specs.Kinds.{typed, parameter_status}
+use Rattle.envelope.proofs.Points.{on, off, done, begin, none}
 use Rattle.messages.proofs.startup.parameter_status.Goals as goal
+
+pub returns-in_err-frame : goal.returns-in_err-frame
+unfolding parameter_status
+returns-in_err-frame c = 
+    let p = err_from_is_err_and c.from_residual.result c.from_residual.ensures.1 in
+    rw (p.1, p.2) (none _ typed parameter_status c.args.buf.now _ c.in_err-frame.ensures)
 
 pub returns-in_default : goal.returns-in_default
 unfolding parameter_status
-returns-in_default c = c.unframed.ensures ∙ none _ typed parameter_status c.args.buf.now c.typed-header.ensures c.in_default.not-Frame
-
-pub slice_bounds-frame-end : goal.slice_bounds-frame-end
-slice_bounds-frame-end c = sym (ends typed _ c.args.buf.now c.typed-header.ensures c.in-Frame.is)
+returns-in_default c = rw c.cut.ensures (off (begin _ typed parameter_status _ c.in_ok-frame.ensures) c.in_default.ensures)
 
 pub returns-in_default-text : goal.returns-in_default-text
 unfolding parameter_status
-returns-in_default-text c =
-    let left : (P.Left c.args.rules (take c.in-Frame.end c.args.buf.now) (decode_as c.args.rules typed parameter_status c.args.buf.now)) parameter_status.body parameter_status.message 5 = begin _ typed parameter_status _ c.typed-header.ensures c.in-Frame.is in
-    off left (ap (text_read 5) (sym c.in_default-text.is) ∙ c.text.ensures)
-
-pub returns-in_default-text-2 : goal.returns-in_default-text-2
-unfolding parameter_status
-returns-in_default-text-2 c =
-    let left : (P.Left c.args.rules (take c.in-Frame.end c.args.buf.now) (decode_as c.args.rules typed parameter_status c.args.buf.now)) parameter_status.body parameter_status.message 5 = begin _ typed parameter_status _ c.typed-header.ensures c.in-Frame.is in
-    let left-2 : (P.Left c.args.rules (take c.in-Frame.end c.args.buf.now) (decode_as c.args.rules typed parameter_status c.args.buf.now)) (string ∷ []) (λ ss. R.parameter_status c.in-Is.name ss.0) c.in-Is.c.at = on left (ap (text_read 5) (sym c.in-Is.is) ∙ c.text.ensures) in
-    off left-2 (ap (text_read c.in-Is.c.at) (sym c.in_default-text-2.is) ∙ c.text-2.ensures)
+returns-in_default-text c = rw c.cut-in_default-text.ensures (off (on (begin _ typed parameter_status _ c.in_ok-frame.ensures) c.in-Some.ensures) c.in_default-text.ensures)
 
 pub returns : goal.returns
 unfolding parameter_status
-returns c =
-    let left : (P.Left c.args.rules (take c.in-Frame.end c.args.buf.now) (decode_as c.args.rules typed parameter_status c.args.buf.now)) parameter_status.body parameter_status.message 5 = begin _ typed parameter_status _ c.typed-header.ensures c.in-Frame.is in
-    let left-2 : (P.Left c.args.rules (take c.in-Frame.end c.args.buf.now) (decode_as c.args.rules typed parameter_status c.args.buf.now)) (string ∷ []) (λ ss. R.parameter_status c.in-Is.name ss.0) c.in-Is.c.at = on left (ap (text_read 5) (sym c.in-Is.is) ∙ c.text.ensures) in
-    let left-3 : (P.Left c.args.rules (take c.in-Frame.end c.args.buf.now) (decode_as c.args.rules typed parameter_status c.args.buf.now)) [] (λ _. R.parameter_status c.in-Is.name c.in-Is-text.value) c.in-Is-text.c.at = on (left-2) (ap (text_read c.in-Is.c.at) (sym c.in-Is-text.is) ∙ c.text-2.ensures) in
-    done left-3 c.finished.ensures
+returns c = done (on (on (begin _ typed parameter_status _ c.in_ok-frame.ensures) c.in-Some.ensures) c.in-Some-text.ensures) c.finished.ensures

@@ -1,17 +1,14 @@
 -- `messages::startup::request` meets its contract: the envelope, and then nothing.
-use mathlib.Core.List.{[]}
-use mathlib.Core.Path.{sym, ◌∙◌}
+use Rattle.std.proofs.Common.{[]}
+use Rattle.std.proofs.lemmas.Result.{err_from_is_err_and}
 use Rattle.protocol.specs.Kinds.{untyped}
-use Rattle.envelope.proofs.Points.{done, begin_made, none_made, ends}
+use Rattle.envelope.proofs.Points.{done, begin_made, none_made}
 use Rattle.messages.proofs.startup.request.Goals as goal
 
-pub returns-in_default : goal.returns-in_default
-returns-in_default c = let a = c.args in
-    c.unframed.ensures ∙ none_made a.rules untyped a.line [] (λ _. a.message) a.buf.now c.untyped-header.ensures c.in_default.not-Frame
-
-pub slice_bounds-frame-end : goal.slice_bounds-frame-end
-slice_bounds-frame-end c = sym (ends untyped _ c.args.buf.now c.untyped-header.ensures c.in-Frame.is)
+pub returns-in_err-frame : goal.returns-in_err-frame
+returns-in_err-frame c =
+    let p = err_from_is_err_and c.from_residual.result c.from_residual.ensures.1 in
+    rw (p.1, p.2) (none_made c.args.rules untyped c.args.line [] (λ _. c.args.message) c.args.buf.now _ c.in_err-frame.ensures)
 
 pub returns : goal.returns
-returns c = let a = c.args in
-    done (begin_made a.rules untyped a.line [] (λ _. a.message) a.buf.now c.untyped-header.ensures c.in-Frame.is) c.finished.ensures
+returns c = done (begin_made c.args.rules untyped c.args.line [] (λ _. c.args.message) _ c.in_ok-frame.ensures) c.finished.ensures
