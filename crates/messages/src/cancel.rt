@@ -5,7 +5,7 @@ ghost use Rattle.protocol.specs.Kinds as K;
 ghost use Rattle.protocol.specs.Told.{decoded};
 
 use codec::{Cursor, signed32};
-use envelope::{cut, UNTYPED_BODY, finished, untyped};
+use envelope::{UNTYPED_BODY, cut, finished, untyped};
 use protocol::cancel::CancelRequest;
 use protocol::refusal::Unread;
 use protocol::{Message, Rules, kinds};

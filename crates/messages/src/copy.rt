@@ -7,7 +7,7 @@ ghost use Rattle.envelope.specs.Steps.{decode_made};
 ghost use Rattle.messages.specs.Shared.{copy_fields, copy_message};
 
 use codec::{Cursor, signed8};
-use envelope::{cut, TYPED_BODY, fieldless, finished, typed};
+use envelope::{TYPED_BODY, cut, fieldless, finished, typed};
 use protocol::copy::{CopyBothResponse, CopyData, CopyFail, CopyInResponse, CopyOutResponse};
 use protocol::kinds::Line;
 use protocol::refusal::Unread;
@@ -68,7 +68,12 @@ fn copy_message(direction: Direction, format: i8, column_formats: List) -> Messa
 }
 
 // The body of the three responses.
-fn copy_response(rules: Rules, buf: &[u8], line: Line, direction: Direction) -> Result<(Message, usize), Unread>
+fn copy_response(
+    rules: Rules,
+    buf: &[u8],
+    line: Line,
+    direction: Direction,
+) -> Result<(Message, usize), Unread>
     ensures { decoded result ≡ decode_made rules K.typed line copy_fields (copy_message direction) buf.now }
 {
     let frame = typed(buf, line)?;

@@ -7,7 +7,7 @@ ghost use Rattle.envelope.specs.Steps.{decode_made};
 ghost use Rattle.messages.specs.Shared.{aim_fields, aim_message};
 
 use codec::{Cursor, signed32};
-use envelope::{cut, TYPED_BODY, fieldless, finished, typed};
+use envelope::{TYPED_BODY, cut, fieldless, finished, typed};
 use protocol::extendedquery::{Bind, Close, Describe, Execute, Parse, is_target};
 use protocol::kinds::Line;
 use protocol::refusal::{Refusal, Unread};

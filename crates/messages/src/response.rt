@@ -5,8 +5,9 @@ ghost use Rattle.protocol.specs.Kinds as K;
 ghost use Rattle.protocol.specs.Told.{decoded};
 
 use codec::{Cursor, signed32};
-use envelope::{cut, TYPED_BODY, fieldless, finished, typed};
-use items::ended::{Item, items};
+use envelope::{TYPED_BODY, cut, fieldless, finished, typed};
+use items::ErrorField;
+use items::ended::items;
 use protocol::refusal::{Refusal, Unread};
 use protocol::response::{
     CommandComplete, ErrorResponse, NoticeResponse, NotificationResponse, ReadyForQuery, is_status,
@@ -53,7 +54,7 @@ pub fn error_response(rules: Rules, buf: &[u8]) -> Result<(Message, usize), Unre
     ensures { decoded result ≡ decode_as rules K.typed K.error_response buf.now }
 {
     let frame = typed(buf, kinds::ERROR_RESPONSE)?;
-    let (fields, c) = items(rules, frame, Cursor { at: TYPED_BODY }, Item::ErrorField)?;
+    let (fields, c) = items::<ErrorField>(rules, frame, Cursor { at: TYPED_BODY })?;
     finished(frame, c, Message::ErrorResponse(ErrorResponse { fields }))
 }
 
@@ -61,7 +62,7 @@ pub fn notice_response(rules: Rules, buf: &[u8]) -> Result<(Message, usize), Unr
     ensures { decoded result ≡ decode_as rules K.typed K.notice_response buf.now }
 {
     let frame = typed(buf, kinds::NOTICE_RESPONSE)?;
-    let (fields, c) = items(rules, frame, Cursor { at: TYPED_BODY }, Item::ErrorField)?;
+    let (fields, c) = items::<ErrorField>(rules, frame, Cursor { at: TYPED_BODY })?;
     finished(frame, c, Message::NoticeResponse(NoticeResponse { fields }))
 }
 

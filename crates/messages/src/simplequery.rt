@@ -5,7 +5,7 @@ ghost use Rattle.protocol.specs.Kinds as K;
 ghost use Rattle.protocol.specs.Told.{decoded};
 
 use codec::Cursor;
-use envelope::{cut, TYPED_BODY, finished, typed};
+use envelope::{TYPED_BODY, cut, finished, typed};
 use protocol::refusal::Unread;
 use protocol::simplequery::Query;
 use protocol::{Message, Rules, kinds};

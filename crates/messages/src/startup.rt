@@ -6,8 +6,9 @@ ghost use Rattle.protocol.specs.Told.{decoded};
 ghost use Rattle.envelope.specs.Steps.{decode_made};
 
 use codec::{Cursor, signed32};
-use envelope::{cut, TYPED_BODY, UNTYPED_BODY, finished, typed, untyped};
-use items::ended::{Item, items};
+use envelope::{TYPED_BODY, UNTYPED_BODY, cut, finished, typed, untyped};
+use items::Pair;
+use items::ended::items;
 use protocol::kinds::Line;
 use protocol::refusal::Unread;
 use protocol::startup::{BackendKeyData, ParameterStatus, Startup};
@@ -18,12 +19,17 @@ pub fn startup(rules: Rules, buf: &[u8]) -> Result<(Message, usize), Unread>
     ensures { decoded result ≡ decode_as rules K.untyped K.startup buf.now }
 {
     let frame = untyped(buf, kinds::STARTUP)?;
-    let (parameters, c) = items(rules, frame, Cursor { at: UNTYPED_BODY }, Item::Pair)?;
+    let (parameters, c) = items::<Pair>(rules, frame, Cursor { at: UNTYPED_BODY })?;
     finished(frame, c, Message::Startup(Startup { parameters }))
 }
 
 // A request that is its length and its code.
-fn request(rules: Rules, buf: &[u8], line: Line, message: Message) -> Result<(Message, usize), Unread>
+fn request(
+    rules: Rules,
+    buf: &[u8],
+    line: Line,
+    message: Message,
+) -> Result<(Message, usize), Unread>
     ensures { decoded result ≡ decode_made rules K.untyped line [] (λ _. message) buf.now }
 {
     let frame = untyped(buf, line)?;

@@ -6,7 +6,7 @@ use Rattle.messages.proofs.copy.copy_fail.Goals as goal
 
 pub returns-in_err-frame : goal.returns-in_err-frame
 unfolding copy_fail
-returns-in_err-frame c = 
+returns-in_err-frame c =
     let p = err_from_is_err_and c.from_residual.result c.from_residual.ensures.1 in
     rw (p.1, p.2) (none _ typed copy_fail c.args.buf.now _ c.in_err-frame.ensures)
 

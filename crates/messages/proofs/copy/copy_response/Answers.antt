@@ -9,7 +9,7 @@ use Rattle.messages.specs.Shared.{copy_fields, copy_message}
 use Rattle.messages.proofs.copy.copy_response.Goals as goal
 
 pub returns-in_err-frame : goal.returns-in_err-frame
-returns-in_err-frame c = 
+returns-in_err-frame c =
     let p = err_from_is_err_and c.from_residual.result c.from_residual.ensures.1 in
     rw (p.1, p.2) (none_made c.args.rules typed c.args.line copy_fields (copy_message c.args.direction) c.args.buf.now _ c.in_err-frame.ensures)
 
@@ -17,11 +17,11 @@ pub returns-in_default : goal.returns-in_default
 returns-in_default c = rw c.cut.ensures (off (begin_made c.args.rules typed c.args.line copy_fields (copy_message c.args.direction) _ c.in_ok-frame.ensures) (signed_bad 1 c.in_default.ensures))
 
 pub returns-in_err-column_formats : goal.returns-in_err-column_formats
-returns-in_err-column_formats c = 
+returns-in_err-column_formats c =
     let p = err_from_is_err_and c.from_residual-in_err-column_formats.result c.from_residual-in_err-column_formats.ensures.1 in
     rw (p.1, p.2) (off (on (begin_made c.args.rules typed c.args.line copy_fields (copy_message c.args.direction) _ c.in_ok-frame.ensures) (signed_got 1 c.in-Some.ensures)) c.in_err-column_formats.ensures)
 
 pub returns : goal.returns
-returns c = 
+returns c =
     let made = rw c.signed8.ensures at (rw (back w8 c.signed8.result c.signed8.type_inv) at c.copy_message-message.ensures) in
     done (on (on (begin_made c.args.rules typed c.args.line copy_fields (copy_message c.args.direction) _ c.in_ok-frame.ensures) (signed_got 1 c.in-Some.ensures)) c.in_ok-column_formats.ensures) (rw made at c.finished.ensures)

@@ -6,13 +6,13 @@ use Rattle.messages.proofs.data.data_row.Goals as goal
 
 pub returns-in_err-frame : goal.returns-in_err-frame
 unfolding data_row
-returns-in_err-frame c = 
+returns-in_err-frame c =
     let p = err_from_is_err_and c.from_residual.result c.from_residual.ensures.1 in
     rw (p.1, p.2) (none _ typed data_row c.args.buf.now _ c.in_err-frame.ensures)
 
 pub returns-in_err-data : goal.returns-in_err-data
 unfolding data_row
-returns-in_err-data c = 
+returns-in_err-data c =
     let p = err_from_is_err_and c.from_residual-in_err-data.result c.from_residual-in_err-data.ensures.1 in
     rw (p.1, p.2) (off (begin _ typed data_row _ c.in_ok-frame.ensures) c.in_err-data.ensures)
 

@@ -7,7 +7,7 @@ use Rattle.messages.specs.Shared.{aim_fields, aim_message}
 use Rattle.messages.proofs.extendedquery.aim.Goals as goal
 
 pub returns-in_err-frame : goal.returns-in_err-frame
-returns-in_err-frame c = 
+returns-in_err-frame c =
     let p = err_from_is_err_and c.from_residual.result c.from_residual.ensures.1 in
     rw (p.1, p.2) (none_made c.args.rules typed c.args.line aim_fields (aim_message c.args.act) c.args.buf.now _ c.in_err-frame.ensures)
 

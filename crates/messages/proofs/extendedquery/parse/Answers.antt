@@ -6,7 +6,7 @@ use Rattle.messages.proofs.extendedquery.parse.Goals as goal
 
 pub returns-in_err-frame : goal.returns-in_err-frame
 unfolding parse
-returns-in_err-frame c = 
+returns-in_err-frame c =
     let p = err_from_is_err_and c.from_residual.result c.from_residual.ensures.1 in
     rw (p.1, p.2) (none _ typed parse c.args.buf.now _ c.in_err-frame.ensures)
 
@@ -20,7 +20,7 @@ returns-in_default-text c = rw c.cut-in_default-text.ensures (off (on (begin _ t
 
 pub returns-in_err-type_oids : goal.returns-in_err-type_oids
 unfolding parse
-returns-in_err-type_oids c = 
+returns-in_err-type_oids c =
     let p = err_from_is_err_and c.from_residual-in_err-type_oids.result c.from_residual-in_err-type_oids.ensures.1 in
     rw (p.1, p.2) (off (on (on (begin _ typed parse _ c.in_ok-frame.ensures) c.in-Some.ensures) c.in-Some-text.ensures) c.in_err-type_oids.ensures)
 

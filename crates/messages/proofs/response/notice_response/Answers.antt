@@ -6,13 +6,13 @@ use Rattle.messages.proofs.response.notice_response.Goals as goal
 
 pub returns-in_err-frame : goal.returns-in_err-frame
 unfolding notice_response
-returns-in_err-frame c = 
+returns-in_err-frame c =
     let p = err_from_is_err_and c.from_residual.result c.from_residual.ensures.1 in
     rw (p.1, p.2) (none _ typed notice_response c.args.buf.now _ c.in_err-frame.ensures)
 
 pub returns-in_err-fields : goal.returns-in_err-fields
 unfolding notice_response
-returns-in_err-fields c = 
+returns-in_err-fields c =
     let p = err_from_is_err_and c.from_residual-in_err-fields.result c.from_residual-in_err-fields.ensures.1 in
     rw (p.1, p.2) (off (begin _ typed notice_response _ c.in_ok-frame.ensures) c.in_err-fields.ensures)
 

@@ -9,7 +9,7 @@ use Rattle.messages.proofs.response.notification_response.Goals as goal
 
 pub returns-in_err-frame : goal.returns-in_err-frame
 unfolding notification_response
-returns-in_err-frame c = 
+returns-in_err-frame c =
     let p = err_from_is_err_and c.from_residual.result c.from_residual.ensures.1 in
     rw (p.1, p.2) (none _ typed notification_response c.args.buf.now _ c.in_err-frame.ensures)
 
