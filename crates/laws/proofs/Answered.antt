@@ -6,10 +6,11 @@ use mathlib.Core.Option.{Option, some, none}
 use mathlib.Core.Path.{◌≡◌, refl, ap, sym, ◌∙◌}
 use Rattle.protocol.specs.Decoded as D
 use Rattle.protocol.specs.Decoded.{Decoded}
-use Rattle.protocol.specs.declared.Element.TheVariants as E
 use Rattle.protocol.specs.declared.Element.{Element}
 use Rattle.protocol.specs.Encoded as N
 use Rattle.protocol.specs.Encoded.{Encoded}
+use Rattle.protocol.specs.Found as F
+use Rattle.protocol.specs.Found.{Found}
 use Rattle.protocol.specs.declared.List.{List as ListSlot}
 use Rattle.protocol.specs.declared.Message.{Message}
 use Rattle.protocol.specs.Answers.{Answer, success, needs_more, refusal, Unsuccessful, of_decoded, of_element, of_encoded}
@@ -51,52 +52,40 @@ pub refused : {d : Decoded} {number place : ℕ} → of_decoded d ≡ refusal nu
 unfolding back value_by
 refused {d} e = sym (decoded_back d) ∙ ap decoded_from e
 
-abbrev element_from : Answer Element → Element
-element_from = back (λ e n. e) E.NeedMore E.Refused
+abbrev element_from : Answer Element → Found
+element_from = back (λ e _. F.Is e) F.NeedMore F.Refused
 
-element_back : (e : Element) → element_from (of_element e) ≡ e
+element_back : (e : Found) → element_from (of_element e) ≡ e
 unfolding of_element back value_by
-element_back (E.Oid n) = refl
-element_back (E.Format z) = refl
-element_back E.Null = refl
-element_back (E.Value s) = refl
-element_back (E.Field d) = refl
-element_back (E.ErrorField c s) = refl
-element_back (E.Pair n v) = refl
-element_back E.NeedMore = refl
-element_back (E.Refused number place) = refl
+element_back (F.Is e) = refl
+element_back F.NeedMore = refl
+element_back (F.Refused number place) = refl
 
-pub element_is : {e x : Element} {n : ℕ} → of_element e ≡ success x n → e ≡ x
+pub element_is : {e : Found} {x : Element} {n : ℕ} → of_element e ≡ success x n → e ≡ F.Is x
 unfolding back value_by
 element_is {e} h = sym (element_back e) ∙ ap element_from h
 
-pub element_refused : {e : Element} {number place : ℕ} → of_element e ≡ refusal number place → e ≡ E.Refused number place
+pub element_refused : {e : Found} {number place : ℕ} → of_element e ≡ refusal number place → e ≡ F.Refused number place
 unfolding back value_by
 element_refused {e} h = sym (element_back e) ∙ ap element_from h
 
-pub element_waits : {e : Element} → of_element e ≡ needs_more → e ≡ E.NeedMore
+pub element_waits : {e : Found} → of_element e ≡ needs_more → e ≡ F.NeedMore
 unfolding back
 element_waits {e} h = sym (element_back e) ∙ ap element_from h
 
 -- one that needs more, and no other
-pub element_needs : (e : Element) → (of_element e).need_more ≡ true → of_element e ≡ needs_more
+pub element_needs : (e : Found) → (of_element e).need_more ≡ true → of_element e ≡ needs_more
 unfolding of_element back
 element_needs e h =
-    let q : E.NeedMore ≡ e = rw h at (element_back e) in
+    let q : F.NeedMore ≡ e = rw h at (element_back e) in
     rw (← q) refl
 
 -- it consumes nothing
-pub element_consumes : (e : Element) → (of_element e).consumed ≡ 0
+pub element_consumes : (e : Found) → (of_element e).consumed ≡ 0
 unfolding of_element
-element_consumes (E.Oid n) = refl
-element_consumes (E.Format z) = refl
-element_consumes E.Null = refl
-element_consumes (E.Value s) = refl
-element_consumes (E.Field d) = refl
-element_consumes (E.ErrorField c s) = refl
-element_consumes (E.Pair n v) = refl
-element_consumes E.NeedMore = refl
-element_consumes (E.Refused number place) = refl
+element_consumes (F.Is e) = refl
+element_consumes F.NeedMore = refl
+element_consumes (F.Refused number place) = refl
 
 -- an encoder never asks for more
 abbrev encoded_from : Answer (Unit {0}) → Encoded

@@ -10,7 +10,8 @@ use lib.Dec.{ltb}
 use lib.ListN.{length, take}
 use lib.Seq.{take-append-le}
 use Rattle.protocol.specs.Decoded as D
-use Rattle.protocol.specs.declared.Element.TheVariants as E
+use Rattle.protocol.specs.Found as F
+use Rattle.protocol.specs.Found.{Found as ElementAnswer}
 use Rattle.protocol.specs.declared.Element.{Element}
 use Rattle.protocol.specs.declared.Message.{Message}
 use Rattle.protocol.specs.declared.Rules.{Rules}
@@ -18,7 +19,7 @@ use Rattle.protocol.specs.declared.Span.{Span}
 use Rattle.protocol.specs.Answers.{Answer, Unsuccessful, of_decoded, of_element}
 use Rattle.protocol.specs.Decode.{Header, more, refuse, framed, header_of, closed, read_body, body_of, decoded_by, decode_by, decode_of}
 use Rattle.protocol.specs.Each.{Each, slots_of_each}
-use Rattle.protocol.specs.Elements.{Listed, list_in, read_item_at, element_by, element_at, element_in, element_of, value_or}
+use Rattle.protocol.specs.Elements.{Listed, list_in, read_item_at, element_by, found_by, element_at, element_in, element_of, value_or}
 use Rattle.protocol.specs.Fields.{AtomSlot, value_slot, atom_slot, Item, item_slots, Field, one, counted, ended, Slot}
 use Rattle.protocol.specs.Kinds.{Kind, nullable, value_element}
 use Rattle.protocol.specs.Reading.{Read, got, bad, and_then, read, read_each}
@@ -34,7 +35,7 @@ use Rattle.laws.proofs.Answered.{refused, element_is, element_refused, element_w
 use Rattle.laws.proofs.Elements.{elements}
 use Rattle.laws.proofs.Faults.{handed}
 use Rattle.laws.proofs.Headers.{body_answers, header_again}
-use Rattle.laws.proofs.Speaking.{Speaks, Speaking, row_speaks, OfList, found_of}
+use Rattle.laws.proofs.Speaking.{row_speaks, OfList, found_of}
 use Rattle.laws.proofs.Table.{mode_found, kind_found}
 
 -- ---- a body that is refused is refused whatever is made of its slots
@@ -50,31 +51,27 @@ body_same f make other number place (bad k x) e = handed e
 
 -- ---- a whole frame's element is an answer
 
-read_speaks : (i : Item) → Speaks i → (r : Read (Each AtomSlot i.atoms)) → (of_element (element_by i.element r)).need_more ≡ false
+read_speaks : (i : Item) (r : Read (Each AtomSlot i.atoms)) → (of_element (element_by i.element r)).need_more ≡ false
 unfolding element_by of_element
-read_speaks i h (got v q) = ap (λ (a : Answer Element). a.need_more) (h.answers v)
-read_speaks i h (bad number place) = refl
+read_speaks i (got v q) = refl
+read_speaks i (bad number place) = refl
 
-at_speaks : (rules : Rules) (f : List ℕ) (n : ℕ) (o : Listed) → Speaks o.item → (t : Bool) → (of_element (cond t (element_by o.item.element (read_item_at rules o.item n f o.list.start)) (E.Refused no_such_element 0))).need_more ≡ false
+at_speaks : (rules : Rules) (f : List ℕ) (n : ℕ) (o : Listed) (t : Bool) → (of_element (cond t (element_by o.item.element (read_item_at rules o.item n f o.list.start)) (F.Refused no_such_element 0))).need_more ≡ false
 unfolding of_element
-at_speaks rules f n o h true = read_speaks o.item h (read_item_at rules o.item n f o.list.start)
-at_speaks rules f n o h false = refl
+at_speaks rules f n o true = read_speaks o.item (read_item_at rules o.item n f o.list.start)
+at_speaks rules f n o false = refl
 
-list_speaks : (rules : Rules) (f : List ℕ) (n : ℕ) (xs : List Field) → Speaking xs → (l : ℕ) (v : Each Slot xs) → (of_element (element_at rules f n (list_in xs l v))).need_more ≡ false
-unfolding list_in element_at of_element
-list_speaks rules f n [] h l v = refl
-list_speaks rules f n (one a ∷ xs) h l v = list_speaks rules f n xs h l v.1
-list_speaks rules f n (counted k i ∷ xs) h zero v = at_speaks rules f n (record { item = i; list = v.0 }) h.0 (ltb n v.0.count)
-list_speaks rules f n (counted k i ∷ xs) h (suc l) v = list_speaks rules f n xs h.1 l v.1
-list_speaks rules f n (ended i ∷ xs) h zero v = at_speaks rules f n (record { item = i; list = v.0 }) h.0 (ltb n v.0.count)
-list_speaks rules f n (ended i ∷ xs) h (suc l) v = list_speaks rules f n xs h.1 l v.1
+list_speaks : (rules : Rules) (f : List ℕ) (n : ℕ) (o : Option Listed) → (of_element (element_at rules f n o)).need_more ≡ false
+unfolding element_at of_element
+list_speaks rules f n none = refl
+list_speaks rules f n (some o) = at_speaks rules f n o (ltb n o.list.count)
 
 -- ---- the theorems
 
 module _ (rules : Rules) (s : List ℕ) (l n : ℕ) where
   -- decode's refusal of a whole frame is the call's
-  refused_body : (k : Kind) (start end number place : ℕ) (x : Read Message) → read_body rules k k.message (take end s) start ≡ x → decoded_by x end ≡ D.Refused number place → element_in rules s l n (framed k start end) ≡ E.Refused number place
-  unfolding element_in element_by decoded_by
+  refused_body : (k : Kind) (start end number place : ℕ) (x : Read Message) → read_body rules k k.message (take end s) start ≡ x → decoded_by x end ≡ D.Refused number place → element_in rules s l n (framed k start end) ≡ F.Refused number place
+  unfolding element_in found_by decoded_by
   refused_body k start end number place (got m q) x e = absurd (zero_one cc)
   refused_body k start end number place (bad c y) x e =
       let en : c ≡ number = cc in
@@ -82,7 +79,7 @@ module _ (rules : Rules) (s : List ℕ) (l n : ℕ) where
       let h = body_same (take end s) k.message (list_in k.body l) c y (read_each (read rules) k.body (take end s) start) x in
       rw h (rw (en, ep) refl)
 
-  refused_by : (h : Header) (number place : ℕ) → decode_by rules s h ≡ D.Refused number place → element_in rules s l n h ≡ E.Refused number place
+  refused_by : (h : Header) (number place : ℕ) → decode_by rules s h ≡ D.Refused number place → element_in rules s l n h ≡ F.Refused number place
   unfolding element_in decode_by
   refused_by more number place e = absurd (zero_one cc)
   refused_by (refuse c y) number place e =
@@ -92,29 +89,21 @@ module _ (rules : Rules) (s : List ℕ) (l n : ℕ) where
   refused_by (framed k start end) number place e = refused_body k start end number place (read_body rules k k.message (take end s) start) refl e
 
   -- what is made of a whole frame is an answer
-  closed_speaks : (f : List ℕ) (xs : List Field) → Speaking xs → (v : Each Slot xs) (q : ℕ) (t : Bool) → (of_element (element_by (element_at rules f n) (cond t (bad bytes_left q) (got (list_in xs l v) q)))).need_more ≡ false
-  unfolding element_by of_element
-  closed_speaks f xs h v q true = refl
-  closed_speaks f xs h v q false = list_speaks rules f n xs h l v
+  body_speaks : (f : List ℕ) (r : Read (Option Listed)) → (of_element (found_by (element_at rules f n) r)).need_more ≡ false
+  unfolding found_by of_element
+  body_speaks f (bad number place) = refl
+  body_speaks f (got o q) = list_speaks rules f n o
 
-  body_speaks : (f : List ℕ) (xs : List Field) → Speaking xs → (r : Read (Each Slot xs)) → (of_element (element_by (element_at rules f n) (and_then r (λ v q. closed f q (list_in xs l v))))).need_more ≡ false
-  unfolding element_by of_element closed
-  body_speaks f xs h (bad number place) = refl
-  body_speaks f xs h (got v q) = closed_speaks f xs h v q (ltb q (length f))
-
-  frame_speaks : (k : Kind) (start end : ℕ) → Framed rules s k start end → (of_element (element_in rules s l n (framed k start end))).need_more ≡ false
+  frame_speaks : (k : Kind) (start end : ℕ) → (of_element (element_in rules s l n (framed k start end))).need_more ≡ false
   unfolding element_in
-  frame_speaks k start end h =
-      let mode = (mode_found rules h.mode).0 h.known in
-      let kind = (kind_found h.mode mode.0 _ k).0 h.tag in
-      body_speaks (take end s) k.body (row_speaks h.mode mode.0 k kind.0) (read_each (read rules) k.body (take end s) start)
+  frame_speaks k start end = body_speaks (take end s) (read_body rules k (list_in k.body l) (take end s) start)
 
   -- so a call waits exactly where its header does
   waits_by : (h : Header) → header_of rules s ≡ h → (of_element (element_in rules s l n h)).need_more ≡ (of_decoded (decode_by rules s h)).need_more
   unfolding element_in decode_by of_element of_decoded
   waits_by more h = refl
   waits_by (refuse number place) h = refl
-  waits_by (framed k start end) h = frame_speaks k start end (framed_is rules s k start end h) ∙ sym (body_answers (body_of rules k (take end s) start) end)
+  waits_by (framed k start end) h = frame_speaks k start end ∙ sym (body_answers (body_of rules k (take end s) start) end)
 
   answered : (h : Header) → (of_element (element_in rules s l n h)).need_more ≡ false → h ≡ more → ⊥
   unfolding element_in of_element
@@ -139,12 +128,12 @@ unfolding element_of
 elements_more_bytes rules s t l n e = rw (header_again s t rules (answered rules s l n (header_of rules s) e)) (ap of_element (longer rules s l n t (header_of rules s) refl))
 
 -- the second form, of an item that is a value
-own_by : (s stand : List ℕ) (place : ℕ) (own : Option (List ℕ)) (e : Element) → IsItem s (record { item = nullable; place = place; content = (own, tt) }) e → value_or s stand e ≡ own_or stand own
+own_by : (s stand : List ℕ) (place : ℕ) (own : Option (List ℕ)) (e : ElementAnswer) → IsItem s (record { item = nullable; place = place; content = (own, tt) }) e → value_or s stand e ≡ own_or stand own
 unfolding value_or value_element item_slots slots_of_each atom_slot value_slot AtomsPlaced AtomPlaced ValuePlaced
 own_by s stand place none e h = rw (element_is h.is) refl
 own_by s stand place (some own) e h = rw (element_is h.is) h.placed.0
 
-value_by_lem : (s stand : List ℕ) (place : ℕ) (own : Option (List ℕ)) (e : Element) (o : Option Found) → o ≡ some (record { item = nullable; place = place; content = (own, tt) }) → Answers s o e → value_or s stand e ≡ own_or stand own
+value_by_lem : (s stand : List ℕ) (place : ℕ) (own : Option (List ℕ)) (e : ElementAnswer) (o : Option Found) → o ≡ some (record { item = nullable; place = place; content = (own, tt) }) → Answers s o e → value_or s stand e ≡ own_or stand own
 value_by_lem s stand place own e o q a = own_by s stand place own e (rw q at a)
 
 pub stand_ins : StandIns the_element_call
@@ -152,12 +141,12 @@ stand_ins rules m k c t stand l n place own w q = value_by_lem _ stand place own
 
 -- ---- the empty start of the stand-in
 
-refused_empty : (s stand : List ℕ) (e : Element) → Unsuccessful (of_element e) → value_or s stand e ≡ take 0 stand
+refused_empty : (s stand : List ℕ) (e : ElementAnswer) → Unsuccessful (of_element e) → value_or s stand e ≡ take 0 stand
 unfolding value_or
 refused_empty s stand e (inl h) = rw (element_waits h) refl
 refused_empty s stand e (inr (number, place, h)) = rw (element_refused h) refl
 
-other_empty : (s stand : List ℕ) (list : Option Item) → (list ≡ some nullable → ⊥) → (o : Option Found) (e : Element) → OfList list o → Answers s o e → value_or s stand e ≡ take 0 stand
+other_empty : (s stand : List ℕ) (list : Option Item) → (list ≡ some nullable → ⊥) → (o : Option Found) (e : ElementAnswer) → OfList list o → Answers s o e → value_or s stand e ≡ take 0 stand
 unfolding OfList
 other_empty s stand list other none e t a = refused_empty s stand e (inr (no_such_element, 0, a))
 other_empty s stand list other (some x) e t a =

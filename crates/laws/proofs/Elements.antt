@@ -9,13 +9,13 @@ use borrow.Author.Tests.{ltb-true, ltb-false}
 use lib.Dec.{T, leb, ltb}
 use lib.ListN.{length, length-append}
 use lib.Seq.{take-append_seam}
-use Rattle.protocol.specs.declared.Element.TheVariants as E
-use Rattle.protocol.specs.declared.Element.{Element}
+use Rattle.protocol.specs.Found as F
+use Rattle.protocol.specs.Found.{Found as ElementAnswer}
 use Rattle.protocol.specs.declared.Rules.{Rules}
 use Rattle.protocol.specs.Answers.{of_element}
 use Rattle.protocol.specs.Bytes.{be}
 use Rattle.protocol.specs.Each.{Each, bytes_of_each, slots_of_each, able_each, HoldsEach}
-use Rattle.protocol.specs.Elements.{list_in, read_item_at, element_by, element_at, element_in, element_of}
+use Rattle.protocol.specs.Elements.{list_in, read_item_at, element_by, found_by, element_at, element_in, element_of}
 use Rattle.protocol.specs.Fields.{Atom, AtomContent, atom_bytes, atom_slot, Item, ItemContent, item_able, item_bytes, item_slots, items_bytes, ItemsInRange, items_able, none_ends, Count, most, Field, one, counted, ended, Content, InRange, able, bytes, slot}
 use Rattle.protocol.specs.Kinds.{Kind, Mode}
 use Rattle.protocol.specs.Reading.{pass_items}
@@ -24,7 +24,7 @@ use Rattle.protocol.specs.WellFormed.{Contents, body_bytes, header, body_start, 
 use Rattle.protocol.proofs.Find.{every}
 use Rattle.protocol.proofs.Basics.{left_holds, right_holds}
 use Rattle.laws.specs.ElementStatements.{Elements}
-use Rattle.laws.specs.Items.{Found, item_from, found, list_item, AtomsPlaced, Answers}
+use Rattle.laws.specs.Items.{Found, item_from, found, AtomsPlaced, Answers}
 use Rattle.laws.specs.Statements.{the_element_call}
 use Rattle.laws.proofs.Bodies.{sane_field}
 use Rattle.laws.proofs.Complete.{header_long, frame_back, content_back}
@@ -32,12 +32,11 @@ use Rattle.laws.proofs.Fields.{atom_placed}
 use Rattle.laws.proofs.Items.{both, sane_item, item_back}
 use Rattle.laws.proofs.Numbers.{length-be}
 use Rattle.laws.proofs.SaneKinds.{row_sane}
-use Rattle.laws.proofs.Speaking.{row_speaks, OfList, found_of}
 
 -- what is answered of an item that was found, or of none
-abbrev answer_of : Option Found → Element
-answer_of none = E.Refused no_such_element 0
-answer_of (some x) = x.item.element (item_slots x.item x.place x.content)
+abbrev answer_of : Option Found → ElementAnswer
+answer_of none = F.Refused no_such_element 0
+answer_of (some x) = F.Is (x.item.element (item_slots x.item x.place x.content))
 
 -- ---- item n of a list
 
@@ -60,7 +59,7 @@ module _ (rules : Rules) (i : Item) (sane : T (sane_item i)) where
       let ih = item_at cs n (pre ++ b) post (omega arith) r.1 able.1 in
       rw (append_assoc b (items_bytes i cs) post, item_back rules i sane c pre (items_bytes i cs ++ post) r.0 able.0, ← append_assoc pre b (items_bytes i cs ++ post), ← q) ih
 
-  at_by : (cs : List (ItemContent i)) (n : ℕ) (pre post : List ℕ) → ItemsInRange i cs → items_able rules i cs ≡ true → (t : Bool) → ltb n (length cs) ≡ t → cond t (element_by i.element (read_item_at rules i n (pre ++ (items_bytes i cs ++ post)) (length pre))) (E.Refused no_such_element 0) ≡ answer_of (item_from i (length pre) cs n)
+  at_by : (cs : List (ItemContent i)) (n : ℕ) (pre post : List ℕ) → ItemsInRange i cs → items_able rules i cs ≡ true → (t : Bool) → ltb n (length cs) ≡ t → cond t (element_by i.element (read_item_at rules i n (pre ++ (items_bytes i cs ++ post)) (length pre))) (F.Refused no_such_element 0) ≡ answer_of (item_from i (length pre) cs n)
   at_by cs n pre post r a true t = item_at cs n pre post (ltb-true _ _ t) r a
   at_by cs n pre post r a false t = sym (ap answer_of (no_item i (length pre) cs n (ltb-false _ _ t)))
 
@@ -167,13 +166,13 @@ found_placed (ended i ∷ xs) c (suc l) n pre post = placed_after (ended i) xs c
 
 -- ---- the theorem
 
-answers : (s : List ℕ) (o : Option Found) (e : Element) → e ≡ answer_of o → Placed s o → (list : Option Item) → OfList list o → Answers s o e
-unfolding Placed OfList of_element
-answers s none e h p list t = ap of_element h
-answers s (some x) e h p list t = record { is = ap of_element h ∙ t.0.answers (item_slots x.item x.place x.content); placed = p }
+answers : (s : List ℕ) (o : Option Found) (e : ElementAnswer) → e ≡ answer_of o → Placed s o → Answers s o e
+unfolding Placed of_element
+answers s none e h p = ap of_element h
+answers s (some x) e h p = record { is = ap of_element h; placed = p }
 
 pub element_is : (rules : Rules) (m : Mode) (k : Kind) (c : Contents k) (t : List ℕ) (l n : ℕ) → WellFormed rules m k c → element_of rules (frame m.envelope k c ++ t) l n ≡ answer_of (found k.body (body_start m.envelope) c l n)
-unfolding element_of element_in element_by Found_at frame body_bytes
+unfolding element_of element_in found_by Found_at frame body_bytes
 element_is rules m k c t l n w =
     let e = m.envelope in
     let b = body_bytes k c in
@@ -189,5 +188,4 @@ elements rules m k c t l n w =
     let b = body_bytes k c in
     let h = header e k.tag (length b) in
     let placed = rw (header_long e k.tag (length b), ← append_assoc h b t) at (found_placed k.body c l n h t) in
-    let says = found_of k.body (row_speaks m w.known k w.kind) (body_start e) c l n in
-    answers (frame e k c ++ t) (found k.body (body_start e) c l n) _ (element_is rules m k c t l n w) placed (list_item k.body l) says
+    answers (frame e k c ++ t) (found k.body (body_start e) c l n) _ (element_is rules m k c t l n w) placed

@@ -8,10 +8,10 @@ use native.Mathlib.Omega.{arith}
 use lib.Dec.{eqb}
 use Rattle.protocol.specs.Decoded as D
 use Rattle.protocol.specs.Decoded.{Decoded}
-use Rattle.protocol.specs.declared.Element.TheVariants as E
-use Rattle.protocol.specs.declared.Element.{Element}
 use Rattle.protocol.specs.Encoded as N
 use Rattle.protocol.specs.Encoded.{Encoded}
+use Rattle.protocol.specs.Found as F
+use Rattle.protocol.specs.Found.{Found}
 use Rattle.protocol.specs.declared.Rules.{Rules}
 use Rattle.protocol.specs.Answers.{success, needs_more, refusal, of_decoded, of_element, of_encoded}
 use Rattle.protocol.specs.Bytes.{is_one_of}
@@ -39,17 +39,11 @@ decoded_nothing (D.Record m n) = success_nothing
 decoded_nothing D.NeedMore = needs_nothing
 decoded_nothing (D.Refused number place) = refusal_nothing number place
 
-pub element_nothing : (e : Element) → GivesNothing (of_element e)
+pub element_nothing : (e : Found) → GivesNothing (of_element e)
 unfolding of_element
-element_nothing (E.Oid n) = success_nothing
-element_nothing (E.Format z) = success_nothing
-element_nothing E.Null = success_nothing
-element_nothing (E.Value s) = success_nothing
-element_nothing (E.Field d) = success_nothing
-element_nothing (E.ErrorField c s) = success_nothing
-element_nothing (E.Pair n v) = success_nothing
-element_nothing E.NeedMore = needs_nothing
-element_nothing (E.Refused number place) = refusal_nothing number place
+element_nothing (F.Is e) = success_nothing
+element_nothing F.NeedMore = needs_nothing
+element_nothing (F.Refused number place) = refusal_nothing number place
 
 pub encoded_nothing : (r : Encoded) → GivesNothing (of_encoded r)
 unfolding of_encoded

@@ -11,6 +11,7 @@ use Rattle.protocol.specs.Decoded as D
 use Rattle.protocol.specs.Decoded.{Decoded}
 use Rattle.protocol.specs.declared.Element.{Element}
 use Rattle.protocol.specs.Encoded.{Encoded}
+use Rattle.protocol.specs.Found.{Found as ElementAnswer}
 use Rattle.protocol.specs.declared.Message.{Message}
 use Rattle.protocol.specs.declared.Rules.{Rules}
 use Rattle.protocol.specs.Answers.{Answer, success, needs_more, refusal, of_decoded, of_element, of_encoded}
@@ -63,7 +64,7 @@ one_decoder other complete waiting refusing rules s b = by (case rules s b)
 -- ---- element calls
 
 -- two answers of one item are one
-pub one_answer : (s : List ℕ) (x : Option Found) (a b : Element) → Answers s x a → Answers s x b → a ≡ b
+pub one_answer : (s : List ℕ) (x : Option Found) (a b : ElementAnswer) → Answers s x a → Answers s x b → a ≡ b
 one_answer s none a b p q = element_refused p ∙ sym (element_refused q)
 one_answer s (some x) a b p q = element_is p.is ∙ sym (element_is q.is)
 
@@ -85,7 +86,7 @@ one_element_call other items first waiting rules s l n b = by (case rules s b)
 
 -- ---- the numbers of an element call's refusals
 
-found_number : (s : List ℕ) (x : Option Found) (e : Element) → Answers s x e → (number place : ℕ) → of_element e ≡ refusal number place → is_one_of number element_numbers ≡ true
+found_number : (s : List ℕ) (x : Option Found) (e : ElementAnswer) → Answers s x e → (number place : ℕ) → of_element e ≡ refusal number place → is_one_of number element_numbers ≡ true
 unfolding is_one_of
 found_number s none e a number place h = let q : 11 ≡ number = (refusal_is (sym a ∙ h)).0 in rw (← q) refl
 found_number s (some x) e a number place h = absurd (not_success (inr (number, place, sym a.is ∙ h)))

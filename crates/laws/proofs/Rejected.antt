@@ -17,7 +17,7 @@ use Rattle.protocol.specs.declared.Rules.{Rules}
 use Rattle.protocol.specs.Answers.{success, needs_more, refusal, of_decoded, of_encoded}
 use Rattle.protocol.specs.Bytes.{Bytes, be}
 use Rattle.protocol.specs.Each.{bytes_of_each, able_each, HoldsEach}
-use Rattle.protocol.specs.Elements.{list_in, element_by, element_at, element_in, element_of}
+use Rattle.protocol.specs.Elements.{list_in, element_by, found_by, element_at, element_in, element_of}
 use Rattle.protocol.specs.Encode.{encoded_by, written_by}
 use Rattle.protocol.specs.Kinds.{typed, backend, parse_complete, value_element}
 use Rattle.protocol.specs.Rules.{rules_of}
@@ -110,7 +110,7 @@ no : {A : Type 0} → ◌≡◌ {A = ℕ} 0 1 → A
 no z = absurd (omega arith)
 
 pub rejected : Rejected
-unfolding the_decoding are_bytes header be frame body_bytes bytes_of_each able_each HoldsEach of_decoded of_encoded encoded_by written_by list_in element_by element_at element_in element_of value_element
+unfolding the_decoding are_bytes header be frame body_bytes bytes_of_each able_each HoldsEach of_decoded of_encoded encoded_by written_by list_in element_by found_by element_at element_in element_of value_element
 rejected = record {
   refuses_everything = λ h. no (let e = (h backend parse_complete tt five_bytes [] 5 (inr (inl refl)) (inl refl) tt refl (mode 1) backend (inr (inl refl)) refl (inl refl)).decoded in let r : D.Refused 2 0 ≡ D.Record (record_of typed parse_complete tt) 5 = recorded e in cc);
   fixed_record = λ h. let e = (h (mode 0) [] M.Sync 5 (bytes_by [] refl) refl).within in omega arith;

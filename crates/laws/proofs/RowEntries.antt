@@ -238,7 +238,7 @@ decoded_row s D.NeedMore starts lengths l n e q = absurd (zero_one cc)
 decoded_row s (D.Refused number place) starts lengths l n e q = absurd (zero_one cc)
 
 -- the element of a value that was passed
-element_is : (f : List ℕ) (l : ListSlot) (i : ℕ) → i < l.count → (w : Passed from_backend f l.count l.start i) → element_at from_backend f i (some (record { item = nullable; list = l })) ≡ element_as (start_of w.value) (length_of w.value)
+element_is : (f : List ℕ) (l : ListSlot) (i : ℕ) → i < l.count → (w : Passed from_backend f l.count l.start i) → element_at from_backend f i (some (record { item = nullable; list = l })) ≡ F.Is (element_as (start_of w.value) (length_of w.value))
 unfolding element_at element_by
 element_is f l i h w = rw (lt-ltb _ _ h, w.item) (told w.value w.below)
 

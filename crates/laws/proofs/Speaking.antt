@@ -1,53 +1,46 @@
--- What is made of an item is an answer: its element is a success, and the second form hands back bytes of a value alone.
+-- The second form hands back bytes of a value alone.
 use Prim.Native.Nat.{ℕ, zero, suc, ◌+◌}
 use mathlib.Core.List.{List, [], ◌∷◌}
 use mathlib.Core.Option.{Option, some, none}
 use mathlib.Core.Path.{◌≡◌, refl}
 use lib.ListN.{length}
-use Rattle.protocol.specs.declared.Span.{Span}
-use Rattle.protocol.specs.Answers.{success, of_element}
+use Rattle.protocol.specs.Found as F
 use Rattle.protocol.specs.Each.{Each}
 use Rattle.protocol.specs.Elements.{value_or}
 use Rattle.protocol.specs.Fields.{AtomSlot, Item, ItemContent, item_bytes, Field, one, counted, ended, Content}
-use Rattle.protocol.specs.Kinds.{Kind, Mode, modes, IsIn, oid, format, nullable, row_field, error_field, pair, value_element}
+use Rattle.protocol.specs.Kinds.{Kind, Mode, modes, IsIn, oid, format, nullable, row_field, error_field, pair}
 use Rattle.protocol.specs.Kinds.{the_table}
 use Rattle.protocol.proofs.Find.{All, in_all}
 use Rattle.laws.specs.Items.{Found, item_from, found, list_item}
 
--- its elements are answers, and where it is no value the second form hands back nothing of them
+-- where it is no value the second form hands back nothing of its elements
 pub record Speaks (i : Item) : Type 0 where
-  pub answers : (v : Each AtomSlot i.atoms) → of_element (i.element v) ≡ success (i.element v) 0
-  pub plain : (i ≡ nullable → ⊥) → (s stand : List ℕ) (v : Each AtomSlot i.atoms) → value_or s stand (i.element v) ≡ []
+  pub plain : (i ≡ nullable → ⊥) → (s stand : List ℕ) (v : Each AtomSlot i.atoms) → value_or s stand (F.Is (i.element v)) ≡ []
 
 -- ---- the items
 
 oid_speaks : Speaks oid
-unfolding of_element value_or
-oid_speaks = record { answers = λ v. refl; plain = λ _ s stand v. refl }
+unfolding value_or
+oid_speaks = record { plain = λ _ s stand v. refl }
 
 format_speaks : Speaks format
-unfolding of_element value_or
-format_speaks = record { answers = λ v. refl; plain = λ _ s stand v. refl }
-
-value_answers : (v : Option Span) → of_element (value_element v) ≡ success (value_element v) 0
-unfolding value_element of_element
-value_answers none = refl
-value_answers (some v) = refl
+unfolding value_or
+format_speaks = record { plain = λ _ s stand v. refl }
 
 value_speaks : Speaks nullable
-value_speaks = record { answers = λ v. value_answers v.0; plain = λ other. absurd (other refl) }
+value_speaks = record { plain = λ other. absurd (other refl) }
 
 field_speaks : Speaks row_field
-unfolding of_element value_or
-field_speaks = record { answers = λ v. refl; plain = λ _ s stand v. refl }
+unfolding value_or
+field_speaks = record { plain = λ _ s stand v. refl }
 
 error_speaks : Speaks error_field
-unfolding of_element value_or
-error_speaks = record { answers = λ v. refl; plain = λ _ s stand v. refl }
+unfolding value_or
+error_speaks = record { plain = λ _ s stand v. refl }
 
 pair_speaks : Speaks pair
-unfolding of_element value_or
-pair_speaks = record { answers = λ v. refl; plain = λ _ s stand v. refl }
+unfolding value_or
+pair_speaks = record { plain = λ _ s stand v. refl }
 
 -- ---- the lists of every row
 

@@ -7,6 +7,7 @@ use Rattle.protocol.specs.declared.Message.TheVariants as M
 use Rattle.protocol.specs.declared.Message.{Message}
 use Rattle.protocol.specs.declared.Rules.{Rules}
 use Rattle.protocol.specs.Answers.{Answer, success, needs_more, refusal, of_decoded, of_element}
+use Rattle.protocol.specs.Found.{Found}
 use Rattle.protocol.specs.Rules.{rules_of}
 
 -- an element that a line names: list number, element number, and the element
@@ -66,11 +67,11 @@ edges =
     ∷ []
 
 -- each is answered so, and its elements
-abbrev pub Gives : (ℕ → ℕ → Element) → List Named → Type 0
+abbrev pub Gives : (ℕ → ℕ → Found) → List Named → Type 0
 Gives call [] = Unit {0}
 Gives call (x ∷ xs) = (of_element (call x.list x.number) ≡ success x.element 0) × Gives call xs
 
-abbrev pub Answered : (Rules → List ℕ → Decoded) → (Rules → List ℕ → ℕ → ℕ → Element) → List Edge → Type 0
+abbrev pub Answered : (Rules → List ℕ → Decoded) → (Rules → List ℕ → ℕ → ℕ → Found) → List Edge → Type 0
 Answered decode call [] = Unit {0}
 Answered decode call (e ∷ es) =
     (of_decoded (decode (rules_of e.mode) e.bytes) ≡ e.answer)

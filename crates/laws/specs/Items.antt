@@ -1,7 +1,7 @@
 -- Which item of a frame's content an element call asks for, and where that item stands: said of the content, without reading.
 use Rattle.std.specs.Prelude.{ℕ, zero, suc, ◌+◌, List, [], ◌∷◌, ◌≡◌, length}
 use Rattle.std.proofs.Math.Option.{Option, some, none}
-use Rattle.protocol.specs.declared.Element.{Element}
+use Rattle.protocol.specs.Found.{Found as ElementAnswer}
 use Rattle.protocol.specs.Answers.{success, refusal, of_element}
 use Rattle.protocol.specs.Each.{Each}
 use Rattle.protocol.specs.Fields.{Atom, AtomContent, AtomSlot, Item, ItemContent, item_bytes, item_slots, Field, one, counted, ended, Content, bytes}
@@ -44,11 +44,11 @@ AtomsPlaced s [] v c = Unit {0}
 AtomsPlaced s (a ∷ xs) v c = AtomPlaced s a v.0 c.0 × AtomsPlaced s xs v.1 c.1
 
 -- e is that item, numbers and positions, and the parts of s at its positions are its own bytes
-pub record IsItem (s : List ℕ) (x : Found) (e : Element) : Type 0 where
+pub record IsItem (s : List ℕ) (x : Found) (e : ElementAnswer) : Type 0 where
   pub is : of_element e ≡ success (x.item.element (item_slots x.item x.place x.content)) 0
   pub placed : AtomsPlaced s x.item.atoms (item_slots x.item x.place x.content) x.content
 
 -- e is what an element call of s answers of it: 11 where there is none
-abbrev pub Answers : List ℕ → Option Found → Element → Type 0
+abbrev pub Answers : List ℕ → Option Found → ElementAnswer → Type 0
 Answers s none e = of_element e ≡ refusal no_such_element 0
 Answers s (some x) e = IsItem s x e

@@ -4,9 +4,9 @@ use Rattle.std.specs.Prelude.{ℕ, ◌+◌, cond, ◌&&◌, List, ◌++◌, eqb,
 use Rattle.std.proofs.Math.Option.{Option, some, none}
 use Rattle.protocol.specs.Decoded as D
 use Rattle.protocol.specs.Decoded.{Decoded}
-use Rattle.protocol.specs.declared.Element.{Element}
 use Rattle.protocol.specs.Encoded as N
 use Rattle.protocol.specs.Encoded.{Encoded}
+use Rattle.protocol.specs.Found.{Found}
 use Rattle.protocol.specs.declared.Message.TheVariants as M
 use Rattle.protocol.specs.declared.Rules.{Rules}
 use Rattle.protocol.specs.Bytes.{number_at}
@@ -82,7 +82,7 @@ count_at_its_word rules s = word_by rules s (header_of rules s)
 
 -- ---- an element call
 
-abbrev pub first_for_each_number : Rules → List ℕ → ℕ → ℕ → Element
+abbrev pub first_for_each_number : Rules → List ℕ → ℕ → ℕ → Found
 first_for_each_number rules s l n = element_of rules s l 0
 
 -- ---- what an encoder answers, in the place of encoded_by

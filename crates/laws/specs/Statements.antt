@@ -4,7 +4,7 @@
 use Rattle.std.specs.Prelude.{ℕ, ◌+◌, ◌≤◌, true, false, List, [], ◌∷◌, ◌++◌, ◌⊎◌, ◌↔◌, ◌≡◌, length, take, drop}
 use Rattle.std.proofs.Math.Option.{none, map}
 use Rattle.protocol.specs.Decoded.{Decoded}
-use Rattle.protocol.specs.declared.Element.{Element}
+use Rattle.protocol.specs.Found.{Found}
 use Rattle.protocol.specs.declared.Message.{Message}
 use Rattle.protocol.specs.declared.Rules.{Rules}
 use Rattle.protocol.specs.declared.kinds.Line.{Line}
@@ -31,7 +31,7 @@ the_decoder = decode_of
 
 -- an element call: rules, the bytes that are there, list number and element number
 abbrev pub ElementCall : Type 0
-ElementCall = Rules → List ℕ → ℕ → ℕ → Element
+ElementCall = Rules → List ℕ → ℕ → ℕ → Found
 
 abbrev pub the_element_call : ElementCall
 the_element_call = element_of
