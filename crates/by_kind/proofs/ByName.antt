@@ -7,7 +7,6 @@ use mathlib.Core.Path.{◌≡◌, refl, ◌∙◌, subst}
 use native.Mathlib.Omega.{arith}
 use lib.IntN.{ℤ}
 use lib.ListN.{length, take, length-map}
-use Rattle.protocol.specs.declared.Element.{Element}
 use Rattle.protocol.specs.declared.List.{List as ListSlot}
 use Rattle.protocol.specs.declared.Message.TheVariants as M
 use Rattle.protocol.specs.declared.data.FieldDescription.{FieldDescription}
@@ -18,6 +17,7 @@ use Rattle.protocol.specs.declared.response.SslResponse.{SslResponse}
 use Rattle.protocol.specs.Each.{HoldsEach, slots_of_each}
 use Rattle.protocol.specs.Encode.{items, values_given, error_fields_given, pairs_given, row_fields_given, ssl_kind, gss_kind}
 use Rattle.protocol.specs.Fields.{AtomInRange, atom_slot, value_slot, Item, ItemContent, item_bytes, item_slots, InRange, bytes, slot}
+use Rattle.protocol.specs.Found.{Found}
 use Rattle.protocol.specs.Kinds as K
 use Rattle.protocol.specs.Kinds.{Kind, oid, format, nullable, row_field, error_field, pair, value_element}
 use Rattle.protocol.specs.WellFormed.{Contents, AllInRange, body_start, record_of}
@@ -95,7 +95,7 @@ module _ (b : Back) (l p : ℕ) (list : ListSlot) (item : Item) (cs : List (Item
       let f = item_there item p cs i c e in
       (f.0, rw f.1 at (calls i))
 
-  list_back : {A : Type 0} (given : List A) (Is : ℕ → A → Element → Type 0) → length cs ≡ length given → ((i : ℕ) (x : A) → nth given i ≡ some x → ItemAt i → Is i x (b.element l i)) → ListIs b l list given Is
+  list_back : {A : Type 0} (given : List A) (Is : ℕ → A → Found → Type 0) → length cs ≡ length given → ((i : ℕ) (x : A) → nth given i ≡ some x → ItemAt i → Is i x (b.element l i)) → ListIs b l list given Is
   list_back given Is same named = record {
     count = many ∙ same;
     element = λ i x e. named i x e (item_at i);
@@ -111,7 +111,7 @@ module _ (b : Back) (l p : ℕ) (list : ListSlot) where
   unfolding item_slots slots_of_each atom_slot
   formats zs many calls = list_back b l p list format (items zs) many calls zs _ (length-map zs _) (λ i z e at. (at (z, tt) (number_items ℤ zs i z e)).1.is)
 
-  value_back : (own : Option (List ℕ)) (q : ℕ) (e : Element) → IsItem b.bytes (record { item = nullable; place = q; content = (own, tt) }) e → ValueIs b own e
+  value_back : (own : Option (List ℕ)) (q : ℕ) (e : Found) → IsItem b.bytes (record { item = nullable; place = q; content = (own, tt) }) e → ValueIs b own e
   unfolding item_slots slots_of_each atom_slot value_slot value_element AtomsPlaced AtomPlaced ValuePlaced
   value_back none q e h = h.is
   value_back (some own) q e h = (_, h.is, h.placed.0)

@@ -5,7 +5,6 @@
 use Rattle.std.specs.Prelude.{ℕ, ◌+◌, ◌*◌, ◌≤◌, List, ◌++◌, ◌≡◌, ℤ, length, take, drop}
 use Rattle.std.proofs.Math.Option.{Option, some, none}
 use Rattle.protocol.specs.declared.Element.TheVariants as E
-use Rattle.protocol.specs.declared.Element.{Element}
 use Rattle.protocol.specs.declared.List.{List as ListSlot}
 use Rattle.protocol.specs.declared.Message.TheVariants as M
 use Rattle.protocol.specs.declared.Message.{Message}
@@ -40,6 +39,7 @@ use Rattle.protocol.specs.declared.startup.Startup.{Startup}
 use Rattle.protocol.specs.Answers.{success, refusal, of_decoded, of_element, of_encoded}
 use Rattle.protocol.specs.Bytes.{Bytes, part_of}
 use Rattle.protocol.specs.Encode.{ssl_kind, gss_kind}
+use Rattle.protocol.specs.Found.{Found}
 use Rattle.protocol.specs.Kinds as K
 use Rattle.protocol.specs.Kinds.{Kind, Mode, modes, IsIn}
 use Rattle.protocol.specs.Refusals.{no_such_element}
@@ -53,7 +53,7 @@ use Rattle.laws.specs.Statements.{Decoder, the_decoder, ElementCall, the_element
 pub record Back : Type 0 where
   pub bytes : List ℕ
   pub message : Message
-  pub element : ℕ → ℕ → Element
+  pub element : ℕ → ℕ → Found
 
 -- ---- one field
 
@@ -62,7 +62,7 @@ abbrev pub Text : Back → Span → List ℕ → Type 0
 Text b v given = part_of b.bytes v.start v.len ≡ given
 
 -- list l has an element for each item of the argument, and element i is what the argument says of i; past them there is none
-pub record ListIs {A : Type 0} (b : Back) (l : ℕ) (list : ListSlot) (given : List A) (Is : ℕ → A → Element → Type 0) : Type 0 where
+pub record ListIs {A : Type 0} (b : Back) (l : ℕ) (list : ListSlot) (given : List A) (Is : ℕ → A → Found → Type 0) : Type 0 where
   pub count : list.count ≡ length given
   pub element : (i : ℕ) (x : A) → nth given i ≡ some x → Is i x (b.element l i)
   pub past : (i : ℕ) → length given ≤ i → of_element (b.element l i) ≡ refusal no_such_element 0
@@ -74,7 +74,7 @@ abbrev pub Formats : Back → ℕ → ListSlot → List ℤ → Type 0
 Formats b l list zs = ListIs b l list zs (λ i z e. of_element e ≡ success (E.Format z) 0)
 
 -- a value is NULL, or the bytes at its position are its own
-abbrev pub ValueIs : Back → Option (List ℕ) → Element → Type 0
+abbrev pub ValueIs : Back → Option (List ℕ) → Found → Type 0
 ValueIs b none e = of_element e ≡ success E.Null 0
 ValueIs b (some own) e = (v : Span) × (of_element e ≡ success (E.Value v) 0) × Text b v own
 
@@ -83,7 +83,7 @@ abbrev pub Values : Back → ℕ → ListSlot → List ℤ → List ℕ → Type
 Values b l list lengths joined = ListIs b l list lengths (λ i z e. ValueIs b (value_at z (total size_of (take i lengths)) joined) e)
 
 -- a row's field: its numbers are the argument's, and the bytes at its name are those of the run at the argument's name
-pub record FieldIs (b : Back) (run : List ℕ) (d : FieldDescription) (e : Element) : Type 0 where
+pub record FieldIs (b : Back) (run : List ℕ) (d : FieldDescription) (e : Found) : Type 0 where
   pub field : FieldDescription
   pub is : of_element e ≡ success (E.Field field) 0
   pub name : Text b field.name (part_of run d.name.start d.name.len)
@@ -98,7 +98,7 @@ abbrev pub RowFields : Back → ℕ → ListSlot → List FieldDescription → L
 RowFields b l list fields run = ListIs b l list fields (λ i d e. FieldIs b run d e)
 
 -- an error's field: its code, and the bytes of the joined run after the earlier lengths
-abbrev pub ErrorFieldIs : Back → ℕ → List ℕ → Element → Type 0
+abbrev pub ErrorFieldIs : Back → ℕ → List ℕ → Found → Type 0
 ErrorFieldIs b code own e = (v : Span) × (of_element e ≡ success (E.ErrorField code v) 0) × Text b v own
 
 abbrev pub ErrorFields : Back → ℕ → ListSlot → List ℕ → List ℕ → List ℕ → Type 0
@@ -107,7 +107,7 @@ ErrorFields b l list codes lengths joined =
     (λ i code e. (n : ℕ) → nth lengths i ≡ some n → ErrorFieldIs b code (take n (drop (total itself (take i lengths)) joined)) e)
 
 -- start-up arguments: one for each two lengths, its name and its value the bytes of the joined run after the earlier lengths
-abbrev pub PairIs : Back → List ℕ → List ℕ → Element → Type 0
+abbrev pub PairIs : Back → List ℕ → List ℕ → Found → Type 0
 PairIs b name own e = (n : Span) × (v : Span) × (of_element e ≡ success (E.Pair n v) 0) × Text b n name × Text b v own
 
 pub record Pairs (b : Back) (l : ℕ) (list : ListSlot) (lengths joined : List ℕ) : Type 0 where

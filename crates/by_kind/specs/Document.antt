@@ -255,8 +255,6 @@ element_fields (E.Field d) =
     ∷ []
 element_fields (E.ErrorField c s) = "code" ≔ number c ∷ "string" ≔ part s ∷ []
 element_fields (E.Pair name of) = pair_of name of
-element_fields E.NeedMore = []
-element_fields (E.Refused k p) = []
 
 -- ---- a row of the table of kinds in these words
 
