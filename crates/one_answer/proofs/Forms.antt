@@ -1,51 +1,53 @@
 -- A contract of each form leaves one answer, and one final buffer.
-use Prim.Native.Nat.{ℕ, ◌+◌}
-use mathlib.Core.Bool.{Bool, true, false, cond, ◌&&◌}
+use Prim.Native.Nat.{ℕ, zero, suc, ◌+◌}
+use mathlib.Core.Bool.{Bool, true, false, ◌&&◌}
+use mathlib.Core.List.{List, [], ◌∷◌}
 use mathlib.Core.Option.{Option, some, none}
 use mathlib.Core.Path.{◌≡◌, ap, refl, sym, ◌∙◌}
-use lib.Dec.{eqb, leb}
-use lib.ListN.{length}
+use lib.Dec.{leb}
+use lib.ListN.{length, take}
+use Rattle.std.specs.Prelude.{Result, Ok, Err}
+use Rattle.std.specs.Prelude.{Option as Maybe, Some, None}
+use Rattle.protocol.specs.Decoded as D
+use Rattle.protocol.specs.Decoded.{Decoded}
+use Rattle.protocol.specs.Encoded as N
 use Rattle.protocol.specs.Encoded.{Encoded}
+use Rattle.protocol.specs.Found as F
+use Rattle.protocol.specs.Found.{Found}
+use Rattle.protocol.specs.declared.Element.{Element}
 use Rattle.protocol.specs.declared.List.{List as ListSlot}
+use Rattle.protocol.specs.declared.Message.{Message}
 use Rattle.protocol.specs.declared.Span.{Span}
 use Rattle.protocol.specs.declared.data.FieldDescription.{FieldDescription}
+use Rattle.protocol.specs.declared.mode.Mode.TheVariants as M
+use Rattle.protocol.specs.declared.mode.Mode.{Mode}
+use Rattle.protocol.specs.declared.refusal.Refusal.TheVariants as R
+use Rattle.protocol.specs.declared.refusal.Refusal.{Refusal}
+use Rattle.protocol.specs.declared.refusal.Refused.{Refused}
+use Rattle.protocol.specs.declared.refusal.Unread.TheVariants as U
+use Rattle.protocol.specs.declared.refusal.Unread.{Unread}
 use Rattle.protocol.specs.Encode.{written_by}
 use Rattle.protocol.specs.Each.{Each}
 use Rattle.protocol.specs.Fields.{AtomSlot}
 use Rattle.protocol.specs.Kinds.{error_field, pair}
 use Rattle.protocol.specs.Reading.{Read, got, bad}
-use Rattle.protocol.specs.Refusals.{cut}
 use Rattle.protocol.specs.Stream as Stream
 use Rattle.protocol.specs.Stream.{whole, need_more, refused, frame, stop}
-use Rattle.codec.specs.CursorRead.{byte_read, half_read, listed_read, passed_read, text_read, value_read, word_read}
-use Rattle.codec.specs.declared.Byte.TheVariants as B
-use Rattle.codec.specs.declared.Byte.{Byte}
-use Rattle.codec.specs.declared.Half.TheVariants as H
-use Rattle.codec.specs.declared.Half.{Half}
-use Rattle.codec.specs.declared.Listed.TheVariants as L
-use Rattle.codec.specs.declared.Listed.{Listed}
-use Rattle.codec.specs.declared.Passed.TheVariants as Pa
-use Rattle.codec.specs.declared.Passed.{Passed}
-use Rattle.codec.specs.declared.Text.TheVariants as T
-use Rattle.codec.specs.declared.Text.{Text}
-use Rattle.codec.specs.declared.Value.TheVariants as Va
-use Rattle.codec.specs.declared.Value.{Value}
-use Rattle.codec.specs.declared.Word.TheVariants as W
-use Rattle.codec.specs.declared.Word.{Word}
+use Rattle.protocol.specs.Told.{number_of, mode_number, decoded, encoded, found}
+use Rattle.protocol.proofs.Basics.{zero_one}
+use Rattle.codec.specs.CursorRead.{step_read, value_read, listed_read, passed_read}
+use Rattle.codec.specs.declared.Cursor.{Cursor}
+use Rattle.envelope.specs.Header as H
+use Rattle.envelope.specs.Header.{Header}
+use Rattle.envelope.specs.Steps.{headed, unread}
 use Rattle.items.specs.ItemRead.{error_read, field_read, pair_read}
-use Rattle.items.specs.declared.data.FieldStep.TheVariants as F
-use Rattle.items.specs.declared.data.FieldStep.{FieldStep}
-use Rattle.items.specs.declared.response.ErrorStep.TheVariants as E
-use Rattle.items.specs.declared.response.ErrorStep.{ErrorStep}
-use Rattle.items.specs.declared.startup.PairStep.TheVariants as P
-use Rattle.items.specs.declared.startup.PairStep.{PairStep}
 use Rattle.listing.specs.Listing.{step_of}
 use Rattle.listing.specs.declared.Step.TheVariants as S
 use Rattle.listing.specs.declared.Step.{Step}
 use Rattle.writers.proofs.Puts.{has_room}
 use Rattle.reader.specs.Row.{places_in, starts_of, lengths_of, over}
 use Rattle.reader.specs.declared.row.Row.{Row}
-use Rattle.one_answer.specs.Forms.{Tells, ByDefinition, WithBuffer, StepsTell, ItemsTell, ListingTells, Encoders, HostEncoders, Writers, Pages, Readers, WholeRows, HostRows, HostBuilders}
+use Rattle.one_answer.specs.Forms.{Tells, ByDefinition, WithBuffer, AnswersTell, StepsTell, HeadersTell, ItemsTell, ListingTells, ToldWithBuffer, Frames, Encoders, HostEncoders, Writers, Pages, Readers, WholeRows, HostRows, HostBuilders}
 
 -- ---- a step's answer is told by what it reads
 
@@ -53,90 +55,148 @@ use Rattle.one_answer.specs.Forms.{Tells, ByDefinition, WithBuffer, StepsTell, I
 told_back : {A B : Type 0} (set : A → B) (back : B → A) → ((a : A) → back (set a) ≡ a) → Tells set
 told_back set back again definition r s p q = sym (again r) ∙ ap back (p ∙ sym q) ∙ again s
 
-abbrev byte_back : Read ℕ → Byte
-byte_back (got n q) = B.Is n (record { at = q })
-byte_back (bad number place) = B.Cut
+-- item n of a list, or what stands in for those behind its end
+abbrev item : {A : Type 0} → A → List A → ℕ → A
+item other [] n = other
+item other (x ∷ xs) zero = x
+item other (x ∷ xs) (suc n) = item other xs n
 
-byte_again : (at : ℕ) (r : Byte) → byte_back (byte_read at r) ≡ r
-byte_again at (B.Is n c) = refl
-byte_again at B.Cut = refl
+-- a refusal by its number, and a mode by its own
+abbrev from_one : List Refusal
+from_one =
+    R.ModeUnknown ∷ R.TypeUnknown ∷ R.LengthTooSmall ∷ R.LengthAboveLimit ∷ R.BadCount ∷ R.Cut ∷ R.NotAllowed ∷ R.BytesLeft ∷ R.OutputTooShort
+    ∷ R.NotRepresentable ∷ R.NoSuchElement ∷ []
 
-abbrev half_back : Read ℕ → Half
-half_back (got n q) = H.Is n (record { at = q })
-half_back (bad number place) = H.Cut
+abbrev refusal_back : ℕ → Refusal
+refusal_back n = item R.ModeUnknown (R.ModeUnknown ∷ from_one) n
 
-half_again : (at : ℕ) (r : Half) → half_back (half_read at r) ≡ r
-half_again at (H.Is n c) = refl
-half_again at H.Cut = refl
+refusal_again : (r : Refusal) → refusal_back (number_of r) ≡ r
+refusal_again R.ModeUnknown = refl
+refusal_again R.TypeUnknown = refl
+refusal_again R.LengthTooSmall = refl
+refusal_again R.LengthAboveLimit = refl
+refusal_again R.BadCount = refl
+refusal_again R.Cut = refl
+refusal_again R.NotAllowed = refl
+refusal_again R.BytesLeft = refl
+refusal_again R.OutputTooShort = refl
+refusal_again R.NotRepresentable = refl
+refusal_again R.NoSuchElement = refl
 
-abbrev word_back : Read ℕ → Word
-word_back (got n q) = W.Is n (record { at = q })
-word_back (bad number place) = W.Cut
+abbrev mode_back : ℕ → Mode
+mode_back n = item M.Frontend (M.Frontend ∷ M.Backend ∷ M.CancelRequest ∷ M.TlsAnswer ∷ M.GssAnswer ∷ M.FirstPacket ∷ []) n
 
-word_again : (at : ℕ) (r : Word) → word_back (word_read at r) ≡ r
-word_again at (W.Is n c) = refl
-word_again at W.Cut = refl
+mode_again : (m : Mode) → mode_back (mode_number m) ≡ m
+mode_again M.Frontend = refl
+mode_again M.Backend = refl
+mode_again M.CancelRequest = refl
+mode_again M.TlsAnswer = refl
+mode_again M.GssAnswer = refl
+mode_again M.FirstPacket = refl
 
-abbrev text_back : Read Span → Text
-text_back (got s q) = T.Is s (record { at = q })
-text_back (bad number place) = T.Cut
+-- a refusal with its place
+abbrev refused_back : ℕ → ℕ → Refused
+refused_back number place = record { refusal = refusal_back number; place = place }
 
-text_again : (at : ℕ) (r : Text) → text_back (text_read at r) ≡ r
-text_again at (T.Is s c) = refl
-text_again at T.Cut = refl
+refused_again : (r : Refused) → refused_back (number_of r.refusal) r.place ≡ r
+refused_again r = ap (λ (x : Refusal). record { refusal = x; place = r.place }) (refusal_again r.refusal)
 
-abbrev value_back : Read (Option Span) → Value
-value_back (got (some s) q) = Va.Is s (record { at = q })
-value_back (got none q) = Va.Null (record { at = q })
-value_back (bad number place) = cond (eqb number cut) Va.Cut Va.BelowNull
+abbrev decoded_back : Decoded → Result (Message × ℕ) Unread
+decoded_back (D.Record m n) = Ok (m, n)
+decoded_back D.NeedMore = Err U.NeedMore
+decoded_back (D.Refused number place) = Err (U.Refused (refused_back number place))
 
-value_again : (at : ℕ) (r : Value) → value_back (value_read at r) ≡ r
-value_again at (Va.Is s c) = refl
-value_again at (Va.Null c) = refl
-value_again at Va.Cut = refl
-value_again at Va.BelowNull = refl
+decoded_again : (r : Result (Message × ℕ) Unread) → decoded_back (decoded r) ≡ r
+decoded_again (Ok (m, n)) = refl
+decoded_again (Err U.NeedMore) = refl
+decoded_again (Err (U.Refused r)) = ap (λ (x : Refused). Err (U.Refused x)) (refused_again r)
 
-abbrev listed_back : Read ListSlot → Listed
-listed_back (got l q) = L.Is l (record { at = q })
-listed_back (bad number place) = L.Refused number place
+abbrev found_back : Found → Result Element Unread
+found_back (F.Is e) = Ok e
+found_back F.NeedMore = Err U.NeedMore
+found_back (F.Refused number place) = Err (U.Refused (refused_back number place))
 
-listed_again : (r : Listed) → listed_back (listed_read r) ≡ r
-listed_again (L.Is l c) = refl
-listed_again (L.Refused number place) = refl
+found_again : (r : Result Element Unread) → found_back (found r) ≡ r
+found_again (Ok e) = refl
+found_again (Err U.NeedMore) = refl
+found_again (Err (U.Refused r)) = ap (λ (x : Refused). Err (U.Refused x)) (refused_again r)
 
-abbrev passed_back : Read (Unit {0}) → Passed
-passed_back (got t q) = Pa.To (record { at = q })
-passed_back (bad number place) = Pa.Refused number place
+abbrev encoded_back : Encoded → Result ℕ Refused
+encoded_back (N.Done n) = Ok n
+encoded_back (N.Refused number place) = Err (refused_back number place)
 
-passed_again : (r : Passed) → passed_back (passed_read r) ≡ r
-passed_again (Pa.To c) = refl
-passed_again (Pa.Refused number place) = refl
+encoded_again : (r : Result ℕ Refused) → encoded_back (encoded r) ≡ r
+encoded_again (Ok n) = refl
+encoded_again (Err r) = ap Err (refused_again r)
 
-abbrev field_back : Read FieldDescription → FieldStep
-field_back (got d q) = F.Is d (record { at = q })
-field_back (bad number place) = F.Cut place
+-- a step that can only be cut
+abbrev step_back : {X : Type 0} → Read X → Maybe (X × Cursor)
+step_back (got x q) = Some (x, record { at = q })
+step_back (bad number place) = None
 
-field_again : (r : FieldStep) → field_back (field_read r) ≡ r
-field_again (F.Is d c) = refl
-field_again (F.Cut p) = refl
+step_again : {X : Type 0} (at : ℕ) (r : Maybe (X × Cursor)) → step_back (step_read at r) ≡ r
+step_again at (Some (x, c)) = refl
+step_again at None = refl
 
-abbrev error_back : Read (Each AtomSlot error_field.atoms) → ErrorStep
-error_back (got s q) = E.Is s.0 s.1.0 (record { at = q })
-error_back (bad number place) = E.Cut place
+-- one with several refusals, by what its value is made of
+abbrev read_back : {X Y : Type 0} → (X → Y) → Read X → Result (Y × Cursor) Refused
+read_back make (got x q) = Ok (make x, record { at = q })
+read_back make (bad number place) = Err (refused_back number place)
 
-error_again : (r : ErrorStep) → error_back (error_read r) ≡ r
-error_again (E.Is code string c) = refl
-error_again (E.Cut p) = refl
+abbrev span_back : Option Span → Maybe Span
+span_back (some s) = Some s
+span_back none = None
 
-abbrev pair_back : Read (Each AtomSlot pair.atoms) → PairStep
-pair_back (got s q) = P.Is s.0 s.1.0 (record { at = q })
-pair_back (bad number place) = P.Cut place
+value_again : (r : Result (Maybe Span × Cursor) Refused) → read_back span_back (value_read r) ≡ r
+value_again (Ok (Some s, c)) = refl
+value_again (Ok (None, c)) = refl
+value_again (Err r) = ap Err (refused_again r)
 
-pair_again : (r : PairStep) → pair_back (pair_read r) ≡ r
-pair_again (P.Is name value c) = refl
-pair_again (P.Cut p) = refl
+listed_again : (r : Result (ListSlot × Cursor) Refused) → read_back (λ l. l) (listed_read r) ≡ r
+listed_again (Ok (l, c)) = refl
+listed_again (Err r) = ap Err (refused_again r)
 
-abbrev step_back : Stream.Step → Step
+abbrev passed_back : Read (Unit {0}) → Result Cursor Refused
+passed_back (got t q) = Ok (record { at = q })
+passed_back (bad number place) = Err (refused_back number place)
+
+passed_again : (r : Result Cursor Refused) → passed_back (passed_read r) ≡ r
+passed_again (Ok c) = refl
+passed_again (Err r) = ap Err (refused_again r)
+
+field_again : (r : Result (FieldDescription × Cursor) Refused) → read_back (λ d. d) (field_read r) ≡ r
+field_again (Ok (d, c)) = refl
+field_again (Err r) = ap Err (refused_again r)
+
+error_again : (r : Result ((ℕ × Span) × Cursor) Refused) → read_back {X = Each AtomSlot error_field.atoms} (λ s. (s.0, s.1.0)) (error_read r) ≡ r
+error_again (Ok ((code, string), c)) = refl
+error_again (Err r) = ap Err (refused_again r)
+
+pair_again : (r : Result ((Span × Span) × Cursor) Refused) → read_back {X = Each AtomSlot pair.atoms} (λ s. (s.0, s.1.0)) (pair_read r) ≡ r
+pair_again (Ok ((name, value), c)) = refl
+pair_again (Err r) = ap Err (refused_again r)
+
+-- why there is no frame, and where a header says that it ends
+abbrev unread_back : Header → Unread
+unread_back (H.Frame n) = U.NeedMore
+unread_back H.NeedMore = U.NeedMore
+unread_back (H.Refused number place) = U.Refused (refused_back number place)
+
+unread_again : (u : Unread) → unread_back (unread u) ≡ u
+unread_again U.NeedMore = refl
+unread_again (U.Refused r) = ap U.Refused (refused_again r)
+
+abbrev headed_back : Header → Result ℕ Unread
+headed_back (H.Frame n) = Ok n
+headed_back H.NeedMore = Err U.NeedMore
+headed_back (H.Refused number place) = Err (U.Refused (refused_back number place))
+
+headed_again : (r : Result ℕ Unread) → headed_back (headed r) ≡ r
+headed_again (Ok n) = refl
+headed_again (Err U.NeedMore) = refl
+headed_again (Err (U.Refused r)) = ap (λ (x : Refused). Err (U.Refused x)) (refused_again r)
+
+abbrev listing_back : Stream.Step → Step
 step_back (frame m n) = S.Frame m n
 step_back (stop whole) = S.Whole
 step_back (stop need_more) = S.NeedMore
@@ -151,23 +211,32 @@ step_again (S.Refused number) = refl
 rest_one : {n m : ℕ} (r s : Span) → got r n ≡ got s m → r ≡ s
 rest_one r s e = cc
 
+pub answers_tell : AnswersTell
+answers_tell = record {
+  decoding = told_back decoded decoded_back decoded_again;
+  element = told_back found found_back found_again;
+  encoding = told_back encoded encoded_back encoded_again;
+  refusal = told_back number_of refusal_back refusal_again;
+  mode = told_back mode_number mode_back mode_again;
+}
+
 pub steps_tell : StepsTell
 steps_tell = record {
-  byte = λ at. told_back (byte_read at) byte_back (byte_again at);
-  half = λ at. told_back (half_read at) half_back (half_again at);
-  word = λ at. told_back (word_read at) word_back (word_again at);
-  text = λ at. told_back (text_read at) text_back (text_again at);
-  value = λ at. told_back (value_read at) value_back (value_again at);
+  step = λ X at. told_back (step_read at) step_back (step_again at);
+  value = told_back value_read (read_back span_back) value_again;
   rest = λ end definition r s p q. rest_one r s (p ∙ sym q);
-  listed = told_back listed_read listed_back listed_again;
+  listed = told_back listed_read (read_back (λ l. l)) listed_again;
   passed = told_back passed_read passed_back passed_again;
 }
 
+pub headers_tell : HeadersTell
+headers_tell = told_back headed headed_back headed_again
+
 pub items_tell : ItemsTell
 items_tell = record {
-  field = told_back field_read field_back field_again;
-  error_field = told_back error_read error_back error_again;
-  pair = told_back pair_read pair_back pair_again;
+  field = told_back field_read (read_back (λ d. d)) field_again;
+  error_field = told_back error_read (read_back (λ s. (s.0, s.1.0))) error_again;
+  pair = told_back pair_read (read_back (λ s. (s.0, s.1.0))) pair_again;
 }
 
 pub listing_tells : ListingTells
@@ -183,12 +252,31 @@ with_buffer A B definition left r s x y p q =
     let same = p.0 ∙ sym q.0 in
     (same, p.1 ∙ ap left same ∙ sym q.1)
 
+pub told_with_buffer : ToldWithBuffer
+told_with_buffer A B C set definition left tells r s x y p q = (tells definition r s p.0 q.0, p.1 ∙ ap left (p.0 ∙ sym q.0) ∙ sym q.1)
+
 -- ---- records of promises
+
+pub frames : Frames
+frames header s (Ok f) (Ok g) p q =
+    let same : length f ≡ length g = let e : H.Frame (length f) ≡ H.Frame (length g) = sym p.header ∙ q.header in cc in
+    ap Ok (p.bytes ∙ ap (λ n. take n s) same ∙ sym q.bytes)
+frames header s (Ok f) (Err U.NeedMore) p q = let e : H.NeedMore ≡ H.Frame (length f) = q ∙ p.header in absurd (zero_one cc)
+frames header s (Ok f) (Err (U.Refused r)) p q =
+    let e : H.Refused (number_of r.refusal) r.place ≡ H.Frame (length f) = q ∙ p.header in
+    absurd (zero_one cc)
+frames header s (Err U.NeedMore) (Ok f) p q = let e : H.NeedMore ≡ H.Frame (length f) = p ∙ q.header in absurd (zero_one cc)
+frames header s (Err (U.Refused r)) (Ok f) p q =
+    let e : H.Refused (number_of r.refusal) r.place ≡ H.Frame (length f) = p ∙ q.header in
+    absurd (zero_one cc)
+frames header s (Err u) (Err v) p q = ap Err (told_back unread unread_back unread_again header u v p q)
 
 pub encoders : Encoders
 encoders m k given out r s x y p q =
-    let same = p.answer ∙ sym q.answer in
-    (same, p.output ∙ ap (λ (z : Encoded). written_by m k given z out) same ∙ sym q.output)
+    let same = p.answer ∙ sym q.answer in (
+      answers_tell.encoding _ r s p.answer q.answer,
+      p.output ∙ ap (λ (z : Encoded). written_by m k given z out) same ∙ sym q.output,
+    )
 
 pub host_encoders : HostEncoders
 host_encoders a out r s x y p q = (p.answer ∙ sym q.answer, p.output ∙ sym q.output)

@@ -1,16 +1,21 @@
 -- A contract leaves one answer: what it says at two answers, and at two final buffers, makes them equal. This is said of each form that a contract
 -- has, for whatever stands in it; docs/CONTRACTS.md, "One answer", tells which functions have which form.
 -- The exception: of a returned part (`decode::part`, `element::value_or`) a contract sees the contents alone.
-use Rattle.std.specs.Prelude.{ℕ, Bool, List, ◌≡◌, ℤ}
+use Rattle.std.specs.Prelude.{ℕ, Bool, List, ◌≡◌, ℤ, Result, MatchResult}
 use Rattle.std.proofs.Math.Option.{Option}
 use Rattle.std.specs.Borrow.{Bor}
-use Rattle.protocol.specs.Encoded.{Encoded}
+use Rattle.protocol.specs.declared.List.{List as ListSlot}
 use Rattle.protocol.specs.declared.Span.{Span}
+use Rattle.protocol.specs.declared.refusal.Refused.{Refused}
+use Rattle.protocol.specs.declared.refusal.Unread.{Unread}
 use Rattle.protocol.specs.Encode.{Encodes}
 use Rattle.protocol.specs.Kinds.{Kind, Mode}
 use Rattle.protocol.specs.Reading.{got}
+use Rattle.protocol.specs.Told.{number_of, mode_number, decoded, encoded, found}
 use Rattle.protocol.specs.WellFormed.{Contents}
-use Rattle.codec.specs.CursorRead.{byte_read, half_read, word_read, text_read, value_read, listed_read, passed_read}
+use Rattle.codec.specs.CursorRead.{step_read, value_read, listed_read, passed_read}
+use Rattle.envelope.specs.Header.{Header}
+use Rattle.envelope.specs.Steps.{headed, unread, Framed}
 use Rattle.host.specs.Asked.{Asked, Answers}
 use Rattle.host_parts.specs.Built.{Renews}
 use Rattle.host_parts.specs.Reads.{LaysRow}
@@ -51,16 +56,25 @@ WithBuffer = (A B : Type 0) (definition : A) (left : A → B) → DeterminesBoth
 abbrev pub Tells : {A B : Type 0} → (A → B) → Type 0
 Tells {A} {B} set = (definition : B) → Determines (λ (r : A). set r ≡ definition)
 
--- a step of the cursor or of the frame reader, that began at a place
-pub record StepsTell : Type 0 where
-  pub byte : (at : ℕ) → Tells (byte_read at)
-  pub half : (at : ℕ) → Tells (half_read at)
-  pub word : (at : ℕ) → Tells (word_read at)
-  pub text : (at : ℕ) → Tells (text_read at)
-  pub value : (at : ℕ) → Tells (value_read at)
+-- what decoding, an element call and an encoder answer, a refusal by its number and a mode by its own
+pub record AnswersTell : Type 0 where
+  pub decoding : Tells decoded
+  pub element : Tells found
+  pub encoding : Tells encoded
+  pub refusal : Tells number_of
+  pub mode : Tells mode_number
+
+-- a step of the cursor or of the frame reader: one that began at a place and can only be cut (a byte, a number or a string), and the others
+pub record StepsTell : Type 1 where
+  pub step : (X : Type 0) (at : ℕ) → Tells (step_read {X = X} at)
+  pub value : Tells value_read
   pub rest : (end : ℕ) → Tells (λ (r : Span). got r end)
   pub listed : Tells listed_read
   pub passed : Tells passed_read
+
+-- where a header says that its frame ends, or why there is none
+abbrev pub HeadersTell : Type 0
+HeadersTell = Tells headed
 
 -- a row's field, an error's and a start-up argument
 pub record ItemsTell : Type 0 where
@@ -72,13 +86,23 @@ pub record ItemsTell : Type 0 where
 abbrev pub ListingTells : Type 0
 ListingTells = Tells step_of
 
+-- `(set r ≡ definition) × (x ≡ left (set r))`, where `set` tells the case: of the answer, and of what it leaves in a lent buffer
+abbrev pub ToldWithBuffer : Type 1
+ToldWithBuffer =
+    (A B C : Type 0) (set : A → B) (definition : B) (left : B → C) → Tells set
+    → DeterminesBoth (λ (r : A) (x : C). (set r ≡ definition) × (x ≡ left (set r)))
+
 -- ---- records of promises
+
+-- the bytes of a frame, or why there is none
+abbrev pub Frames : Type 0
+Frames = (header : Header) (s : List ℕ) → Determines (λ (r : Result (List ℕ) Unread). MatchResult r (λ f. Framed header s f) (λ u. unread u ≡ header))
 
 -- an encoder of the kind k in the mode m
 abbrev pub Encoders : Type 0
 Encoders =
     (m : Mode) (k : Kind) (given : Option (Contents k)) (out : List ℕ)
-    → DeterminesBoth (λ (r : Encoded) (out' : List ℕ). Encodes m k given out r out')
+    → DeterminesBoth (λ (r : Result ℕ Refused) (out' : List ℕ). Encodes m k given out (encoded r) out')
 
 -- an exported encoder
 abbrev pub HostEncoders : Type 0
