@@ -16,8 +16,8 @@ use Rattle.protocol.specs.declared.Message.{Message}
 use Rattle.protocol.specs.Answers.{Answer, success, needs_more, refusal, Unsuccessful, of_decoded, of_element, of_encoded}
 use Rattle.protocol.proofs.Basics.{zero_one}
 use Rattle.reader.specs.Row.{of_row}
-use Rattle.reader.specs.declared.row.Row.TheVariants as R
-use Rattle.reader.specs.declared.row.Row.{Row}
+use Rattle.reader.specs.RowAnswer as R
+use Rattle.reader.specs.RowAnswer.{Row}
 use Rattle.row_builder.specs.Building.{of_built}
 use Rattle.row_builder.specs.declared.Built.TheVariants as B
 use Rattle.row_builder.specs.declared.Built.{Built}

@@ -20,8 +20,8 @@ use Rattle.protocol.specs.Refusals.{output_too_short, no_such_element}
 use Rattle.protocol.specs.Rules.{rules_of}
 use Rattle.reader.specs.Row.{row_in, row_fits, row_by, of_row}
 use Rattle.reader.proofs.RowRoom.{row_in_lem, data-row}
-use Rattle.reader.specs.declared.row.Row.TheVariants as R
-use Rattle.reader.specs.declared.row.Row.{Row}
+use Rattle.reader.specs.RowAnswer as R
+use Rattle.reader.specs.RowAnswer.{Row}
 use Rattle.laws.specs.ReaderStatements.{RowAnswers, row_numbers, RowNumbered}
 use Rattle.laws.specs.Statements.{the_decoder, GivesNothing, decode_numbers}
 use Rattle.laws.proofs.Answered.{recorded, waiting, refused, refusal_is, needs_refusal, not_success}

@@ -12,6 +12,7 @@ use lib.IntN.{ℤ, pos, negsuc}
 use lib.ListN.{length, take, drop, length-map}
 use Rattle.protocol.specs.Decoded as D
 use Rattle.protocol.specs.Decoded.{Decoded}
+use Rattle.protocol.specs.Found as F
 use Rattle.protocol.specs.declared.Element.TheVariants as E
 use Rattle.protocol.specs.declared.List.{List as ListSlot}
 use Rattle.protocol.specs.declared.Message.TheVariants as M
@@ -37,7 +38,7 @@ use Rattle.protocol.proofs.Framed.{framed_is}
 use Rattle.protocol.proofs.Views.{Viewed, viewed}
 use Rattle.element.proofs.Calls.{answered_as}
 use Rattle.reader.proofs.RowRoom.{data-row}
-use Rattle.reader.specs.declared.row.Row.TheVariants as R
+use Rattle.reader.specs.RowAnswer as R
 use Rattle.reader.specs.Row.{Place, length_word, start_of, length_of, entry_of, places_from, row_in, row_fits, row_by, over, starts_of, lengths_of, ReadsRow}
 use Rattle.laws.specs.Arguments.{nth}
 use Rattle.laws.specs.ReaderStatements.{element_as, RowIs, RowEntries}
@@ -240,15 +241,10 @@ decoded_row s (D.Refused number place) starts lengths l n e q = absurd (zero_one
 -- the element of a value that was passed
 element_is : (f : List ℕ) (l : ListSlot) (i : ℕ) → i < l.count → (w : Passed from_backend f l.count l.start i) → element_at from_backend f i (some (record { item = nullable; list = l })) ≡ F.Is (element_as (start_of w.value) (length_of w.value))
 unfolding element_at element_by
-element_is f l i h w = rw (lt-ltb _ _ h, w.item) (told w.value w.below)
-
-entry_says : (start : ℕ) (length : ℤ) → of_element (element_as start length) ≡ success (element_as start length) 0
-unfolding of_element
-entry_says start (pos n) = refl
-entry_says start (negsuc n) = refl
+element_is f l i h w = rw (lt-ltb _ _ h, w.item) (ap F.Is (told w.value w.below))
 
 entries : (s starts₀ starts₁ : List ℕ) (lengths₀ lengths₁ : List ℤ) (l : ListSlot) (n : ℕ) → ReadsRow s starts₀ lengths₀ (R.Is l n) starts₁ lengths₁ → RowIs the_element_call s starts₀ starts₁ lengths₀ lengths₁ l.count
-unfolding list_of list_in view data_row
+unfolding list_of list_in view data_row of_element
 entries s starts₀ starts₁ lengths₀ lengths₁ l n e =
     let d = decoded_row s (decode_of from_backend s) (length starts₀) (length lengths₀) l n refl e.answer in
     let f = take n s in
@@ -262,7 +258,7 @@ entries s starts₀ starts₁ lengths₀ lengths₁ l n e =
             length_of w.value,
             rw e.starts (nth_front _ _ i _ (nth-map (λ (x : Place). x.start) _ i _ w.place)),
             rw e.lengths (nth_front _ _ i _ (nth-map (λ (x : Place). x.length) _ i _ w.place)),
-            ap of_element (sym (elements i) ∙ rw d.list (element_is f l i h w)) ∙ entry_says (start_of w.value) (length_of w.value),
+            ap of_element {y = F.Is (element_as (start_of w.value) (length_of w.value))} (sym (elements i) ∙ rw d.list (element_is f l i h w)),
           );
       starts = λ i h. rw e.starts (nth_later (starts_of (places_from l.count f l.start)) starts₀ i (simp length-map (omega (arith, count))));
       lengths = λ i h. rw e.lengths (nth_later (lengths_of (places_from l.count f l.start)) lengths₀ i (simp length-map (omega (arith, count))));

@@ -19,7 +19,7 @@ use Rattle.protocol.specs.Reading.{Read, got, read_number, read_text, read_value
 use Rattle.protocol.specs.Refusals.{output_too_short, no_such_element}
 use Rattle.protocol.specs.Rules.{rules_of}
 use Rattle.protocol.specs.WellFormed.{Contents, WellFormed, body_start, frame}
-use Rattle.reader.specs.declared.row.Row.{Row}
+use Rattle.reader.specs.RowAnswer.{Row}
 use Rattle.reader.specs.Row.{of_row, ReadsRow}
 use Rattle.laws.specs.Arguments.{nth}
 use Rattle.laws.specs.Places.{AtomPlaced}

@@ -18,8 +18,8 @@ use Rattle.host_layout.specs.LaidOut.{of_numbers}
 use Rattle.host_parts.specs.Built.{Renews, number_of, of_number, row_numbers}
 use Rattle.host_parts.specs.Reads.{LaysRow, row_out, row_read}
 use Rattle.reader.specs.Row.{of_row, ReadsRow, places_in, starts_of, lengths_of, over}
-use Rattle.reader.specs.declared.row.Row.TheVariants as R
-use Rattle.reader.specs.declared.row.Row.{Row}
+use Rattle.reader.specs.RowAnswer as R
+use Rattle.reader.specs.RowAnswer.{Row}
 use Rattle.row_builder.specs.Building.{left_by}
 use Rattle.row_builder.specs.declared.Built.TheVariants as B
 use Rattle.row_builder.specs.declared.Built.{Built}

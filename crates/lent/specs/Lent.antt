@@ -11,7 +11,7 @@ use Rattle.host.specs.Asked.{Asked, Answers, answer_by}
 use Rattle.host_layout.specs.LaidOut.{of_numbers}
 use Rattle.host_parts.specs.Built.{Renews, of_number}
 use Rattle.host_parts.specs.Reads.{LaysRow}
-use Rattle.reader.specs.declared.row.Row.{Row}
+use Rattle.reader.specs.RowAnswer.{Row}
 use Rattle.reader.specs.Row.{of_row, ReadsRow}
 use Rattle.row_builder.specs.Building.{left_by, of_built}
 use Rattle.row_builder.specs.declared.Built.{Built}

@@ -46,7 +46,7 @@ use Rattle.listing.specs.declared.Step.TheVariants as S
 use Rattle.listing.specs.declared.Step.{Step}
 use Rattle.writers.proofs.Puts.{has_room}
 use Rattle.reader.specs.Row.{places_in, starts_of, lengths_of, over}
-use Rattle.reader.specs.declared.row.Row.{Row}
+use Rattle.reader.specs.RowAnswer.{Row}
 use Rattle.one_answer.specs.Forms.{Tells, ByDefinition, WithBuffer, AnswersTell, StepsTell, HeadersTell, ItemsTell, ListingTells, ToldWithBuffer, Frames, Encoders, HostEncoders, Writers, Pages, Readers, WholeRows, HostRows, HostBuilders}
 
 -- ---- a step's answer is told by what it reads

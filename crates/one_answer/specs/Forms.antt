@@ -24,7 +24,7 @@ use Rattle.listing.specs.Listing.{Lines, Fills, step_of}
 use Rattle.listing.specs.declared.Filled.{Filled}
 use Rattle.reader.specs.Row.{ReadsRow}
 use Rattle.reader.specs.declared.FrameReader.{FrameReader}
-use Rattle.reader.specs.declared.row.Row.{Row}
+use Rattle.reader.specs.RowAnswer.{Row}
 use Rattle.row_builder.specs.declared.Built.{Built}
 use Rattle.writers.specs.Writing.{Put}
 
