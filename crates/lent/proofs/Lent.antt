@@ -11,13 +11,14 @@ use Rattle.protocol.specs.Encoded.{Encoded}
 use Rattle.protocol.specs.Answers.{Unsuccessful, of_encoded}
 use Rattle.protocol.specs.Encode.{encoded_by, written_by, Encodes}
 use Rattle.protocol.specs.Kinds.{Kind, Mode}
+use Rattle.protocol.specs.Told.{encoded}
 use Rattle.protocol.specs.WellFormed.{Contents}
 use Rattle.host.specs.Asked.{Asked, encoded_as, written_as, Answers, answer_by}
 use Rattle.host.proofs.Numbers.{read_back}
 use Rattle.host_layout.specs.LaidOut.{of_numbers}
 use Rattle.host_parts.specs.Built.{Renews, number_of, of_number, row_numbers}
 use Rattle.host_parts.specs.Reads.{LaysRow, row_out, row_read}
-use Rattle.reader.specs.Row.{of_row, ReadsRow, places_in, starts_of, lengths_of, over}
+use Rattle.reader.specs.Row.{of_row, row_told, ReadsRow, places_in, starts_of, lengths_of, over}
 use Rattle.reader.specs.RowAnswer as R
 use Rattle.reader.specs.RowAnswer.{Row}
 use Rattle.row_builder.specs.Building.{left_by}
@@ -76,8 +77,8 @@ same_building x y a b = λ j. record { row = a j; room = b j }
 
 pub lent : Lent
 lent = record {
-  encode = λ m k given out left r h u. h.output ∙ kept m k given r out u;
-  data_row = λ s x y r h u. let e = no_places r s x u in same_lists x y (h.starts ∙ e.0) (h.lengths ∙ e.1);
+  encode = λ m k given out left r h u. h.output ∙ kept m k given (encoded r) out u;
+  data_row = λ s x y r h u. let e = no_places (row_told r) s x u in same_lists x y (h.starts ∙ e.0) (h.lengths ∙ e.1);
   host = λ a out left n h u.
       let same = read_back a out h.0 in
       h.1.output ∙ asked_kept a (encoded_as a (length out)) out (rw (h.1.answer, same) at u);

@@ -1,18 +1,20 @@
 -- Refused or told need-more, a call leaves what it was lent as it was: one statement for every public call that is lent something to write into.
 -- docs/DECISIONS.md has the calls that it does not speak of, and why.
-use Rattle.std.specs.Prelude.{ℕ, ◌<◌, List, ◌≡◌, ℤ, length}
+use Rattle.std.specs.Prelude.{ℕ, ◌<◌, List, ◌≡◌, ℤ, length, Result}
 use Rattle.std.proofs.Math.Option.{Option}
-use Rattle.protocol.specs.Encoded.{Encoded}
+use Rattle.protocol.specs.declared.List.{List as ListSlot}
+use Rattle.protocol.specs.declared.refusal.Refused.{Refused}
+use Rattle.protocol.specs.declared.refusal.Unread.{Unread}
 use Rattle.protocol.specs.Answers.{Answer, Unsuccessful, of_encoded}
 use Rattle.protocol.specs.Encode.{Encodes}
 use Rattle.protocol.specs.Kinds.{Kind, Mode}
+use Rattle.protocol.specs.Told.{encoded}
 use Rattle.protocol.specs.WellFormed.{Contents}
 use Rattle.host.specs.Asked.{Asked, Answers, answer_by}
 use Rattle.host_layout.specs.LaidOut.{of_numbers}
 use Rattle.host_parts.specs.Built.{Renews, of_number}
 use Rattle.host_parts.specs.Reads.{LaysRow}
-use Rattle.reader.specs.RowAnswer.{Row}
-use Rattle.reader.specs.Row.{of_row, ReadsRow}
+use Rattle.reader.specs.Row.{of_row, row_told, ReadsRow}
 use Rattle.row_builder.specs.Building.{left_by, of_built}
 use Rattle.row_builder.specs.declared.Built.{Built}
 
@@ -32,10 +34,12 @@ pub record Building : Type 0 where
 
 pub record Lent : Type 0 where
   -- crate encode: each encoder, whose contract is of this form
-  pub encode : (m : Mode) (k : Kind) (given : Option (Contents k)) → Leaves of_encoded (λ out (r : Encoded) left. Encodes m k given out r left)
+  pub encode : (m : Mode) (k : Kind) (given : Option (Contents k))
+      → Leaves (λ (r : Result ℕ Refused). of_encoded (encoded r)) (λ out r left. Encodes m k given out (encoded r) left)
   -- reader::row::data_row: both lists
   pub data_row : (s : List ℕ)
-      → Leaves of_row (λ (x : Lists) (r : Row) (y : Lists). ReadsRow s x.starts x.lengths r y.starts y.lengths)
+      → Leaves (λ (r : Result (ListSlot × ℕ) Unread). of_row (row_told r))
+      (λ (x : Lists) r (y : Lists). ReadsRow s x.starts x.lengths (row_told r) y.starts y.lengths)
   -- crate host: each exported encoder, whose answer is one number. An output in memory is far shorter than the numbers that say a refusal
   pub host : (a : Option Asked)
       → Leaves (λ (n : ℕ). of_encoded (answer_by n)) (λ out n left. (length out < 18446744073709551360) × Answers a out n left)

@@ -45,7 +45,8 @@ use Rattle.listing.specs.Listing.{step_of}
 use Rattle.listing.specs.declared.Step.TheVariants as S
 use Rattle.listing.specs.declared.Step.{Step}
 use Rattle.writers.proofs.Puts.{has_room}
-use Rattle.reader.specs.Row.{places_in, starts_of, lengths_of, over}
+use Rattle.reader.specs.Row.{row_told, places_in, starts_of, lengths_of, over}
+use Rattle.reader.specs.RowAnswer as Row
 use Rattle.reader.specs.RowAnswer.{Row}
 use Rattle.one_answer.specs.Forms.{Tells, ByDefinition, WithBuffer, AnswersTell, StepsTell, HeadersTell, ItemsTell, ListingTells, ToldWithBuffer, Frames, Encoders, HostEncoders, Writers, Pages, Readers, WholeRows, HostRows, HostBuilders}
 
@@ -304,10 +305,20 @@ readers held at r s p q =
     let there = p.1 ∙ sym q.1 in
     λ j. record { frame = same j; at = there j }
 
+abbrev row_back : Row → Result (ListSlot × ℕ) Unread
+row_back (Row.Is l n) = Ok (l, n)
+row_back Row.NeedMore = Err U.NeedMore
+row_back (Row.Refused number place) = Err (U.Refused (refused_back number place))
+
+row_again : (r : Result (ListSlot × ℕ) Unread) → row_back (row_told r) ≡ r
+row_again (Ok (l, n)) = refl
+row_again (Err U.NeedMore) = refl
+row_again (Err (U.Refused r)) = ap (λ (x : Refused). Err (U.Refused x)) (refused_again r)
+
 pub whole_rows : WholeRows
 whole_rows buf starts lengths r s x y u v p q =
     let same = p.answer ∙ sym q.answer in (
-      same,
+      told_back row_told row_back row_again _ r s p.answer q.answer,
       p.starts ∙ ap (λ (z : Row). over (starts_of (places_in z buf)) starts) same ∙ sym q.starts,
       p.lengths ∙ ap (λ (z : Row). over (lengths_of (places_in z buf)) lengths) same ∙ sym q.lengths,
     )

@@ -22,9 +22,8 @@ use Rattle.host_parts.specs.Reads.{LaysRow}
 use Rattle.items.specs.ItemRead.{field_read, error_read, pair_read}
 use Rattle.listing.specs.Listing.{Lines, Fills, step_of}
 use Rattle.listing.specs.declared.Filled.{Filled}
-use Rattle.reader.specs.Row.{ReadsRow}
+use Rattle.reader.specs.Row.{ReadsRow, row_told}
 use Rattle.reader.specs.declared.FrameReader.{FrameReader}
-use Rattle.reader.specs.RowAnswer.{Row}
 use Rattle.row_builder.specs.declared.Built.{Built}
 use Rattle.writers.specs.Writing.{Put}
 
@@ -124,7 +123,8 @@ Readers = (frame : Bor (List ℕ)) (at : ℕ) → Determines (λ (r : FrameReade
 abbrev pub WholeRows : Type 0
 WholeRows =
     (buf starts : List ℕ) (lengths : List ℤ)
-    → DeterminesAll (λ (r : Row) (starts' : List ℕ) (lengths' : List ℤ). ReadsRow buf starts lengths r starts' lengths')
+    → DeterminesAll
+    (λ (r : Result (ListSlot × ℕ) Unread) (starts' : List ℕ) (lengths' : List ℤ). ReadsRow buf starts lengths (row_told r) starts' lengths')
 
 abbrev pub HostRows : Type 0
 HostRows =
