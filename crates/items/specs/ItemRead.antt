@@ -1,5 +1,5 @@
 -- Of each case of an item's step: what was read and the next place, or the refusal's number and place (docs/FORMAT.md 5).
-use Rattle.std.specs.Prelude.{ℕ, Result, Ok, Err}
+use Rattle.std.specs.Prelude.{ℕ, ◌+◌, ◌-◌, ◌*◌, ◌/◌, cond, ltb, Result, Ok, Err}
 use Rattle.protocol.specs.declared.Element.{Element}
 use Rattle.protocol.specs.declared.Span.{Span}
 use Rattle.protocol.specs.declared.data.FieldDescription.{FieldDescription}
@@ -8,6 +8,7 @@ use Rattle.protocol.specs.Each.{Each}
 use Rattle.protocol.specs.Fields.{AtomSlot}
 use Rattle.protocol.specs.Kinds.{error_field, pair}
 use Rattle.protocol.specs.Reading.{Read, got, bad}
+use Rattle.protocol.specs.Refusals.{cut}
 use Rattle.protocol.specs.Told.{number_of}
 use Rattle.codec.specs.declared.Cursor.{Cursor}
 
@@ -27,3 +28,7 @@ pair_read (Err r) = bad (number_of r.refusal) r.place
 abbrev pub element_read : Result (Element × Cursor) Refused → Read Element
 element_read (Ok (e, c)) = got e c.at
 element_read (Err r) = bad (number_of r.refusal) r.place
+
+-- past n items of w bytes each, where so many bytes are there; the first that is not whole is cut
+unfoldable pub pass_fixed : ℕ → ℕ → ℕ → ℕ → Read (Unit {0})
+pass_fixed w n len p = cond (ltb ((len - p) / w) n) (bad cut (p + (len - p) / w * w)) (got tt (p + n * w))

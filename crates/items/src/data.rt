@@ -4,10 +4,9 @@ ghost use Rattle.protocol.specs.Fields.{signed_count};
 ghost use Rattle.protocol.specs.Kinds as K;
 ghost use Rattle.protocol.specs.Reading.{and_then, got, read, read_item};
 ghost use Rattle.codec.specs.CursorRead.{listed_read};
-ghost use Rattle.items.specs.Grows.{row_grows};
 ghost use Rattle.items.specs.ItemRead.{field_read};
 
-use crate::{Item, RowField, pass_items};
+use crate::{Item, RowField};
 use codec::{Cursor, signed16, signed32};
 use protocol::data::FieldDescription;
 use protocol::refusal::{Refusal, Refused};
@@ -57,8 +56,6 @@ pub fn field_description(
 impl Item for RowField {
     ghost item = { K.row_field };
 
-    ghost grows = { row_grows };
-
     fn read(rules: Rules, frame: &[u8], c: Cursor) -> Result<(Element, Cursor), Refused> {
         let (field, c) = field_description(rules, frame, c)?;
         Ok((Element::Field(field), c))
@@ -70,6 +67,6 @@ pub fn fields(rules: Rules, frame: &[u8], c: Cursor) -> Result<(List, Cursor), R
     ensures { listed_read result ≡ read rules (K.row_fields signed_count) frame.now c.at }
 {
     let (list, c) = c.count(Count::Signed, frame, 19)?;
-    let c = pass_items::<RowField>(rules, frame, c, list.count)?;
+    let c = RowField::pass(rules, frame, c, list.count)?;
     Ok((list, c))
 }

@@ -1,7 +1,9 @@
 // Lists that end in a zero byte: an error's fields, and the arguments of a start-up message.
-ghost use Rattle.std.specs.Prelude.{◌≡◌};
+ghost use Rattle.std.specs.Prelude.{◌≡◌, ℕ, List as Bytes};
+ghost use Rattle.protocol.specs.declared.Rules.{Rules as RulesOf};
 ghost use Rattle.protocol.specs.Fields.{ended};
 ghost use Rattle.protocol.specs.Reading.{read};
+ghost use Rattle.protocol.proofs.Ended.{Grows};
 ghost use Rattle.codec.specs.CursorRead.{listed_read};
 
 use crate::Item;
@@ -9,8 +11,13 @@ use codec::Cursor;
 use protocol::refusal::{Refusal, Refused};
 use protocol::{List, Rules};
 
+// An item of such a list takes at least a byte, so that the walk ends.
+pub trait EndedItem: Item {
+    ghost grows: { (rules : RulesOf) (f : Bytes ℕ) → Grows rules Self.item f };
+}
+
 // The items until a zero byte stands in place of one. The walk is left at once at the first that is cut.
-pub fn items<I: Item>(rules: Rules, frame: &[u8], c: Cursor) -> Result<(List, Cursor), Refused>
+pub fn items<I: EndedItem>(rules: Rules, frame: &[u8], c: Cursor) -> Result<(List, Cursor), Refused>
     ensures { listed_read result ≡ read rules (ended I.item) frame.now c.at }
 {
     let start = c.at;

@@ -1,12 +1,10 @@
-// The items of lists that are walked, and the lists of them. What a kind's decoder reads of an item, an element call reads too.
+// The items of lists, and the lists that are walked. What a kind's decoder reads of an item, an element call reads too.
 // Inner: for crates of this library alone (docs/INNER.md).
 #![tactic(auto)]
 
-ghost use Rattle.std.specs.Prelude.{◌≡◌, ℕ, List};
-ghost use Rattle.protocol.specs.declared.Rules.{Rules as RulesOf};
+ghost use Rattle.std.specs.Prelude.{◌≡◌};
 ghost use Rattle.protocol.specs.Fields as F;
 ghost use Rattle.protocol.specs.Reading.{and_then, got, pass_items, read_item};
-ghost use Rattle.protocol.proofs.Ended.{Grows};
 ghost use Rattle.codec.specs.CursorRead.{passed_read};
 ghost use Rattle.items.specs.ItemRead.{element_read};
 
@@ -16,10 +14,12 @@ use protocol::{Element, Rules};
 
 pub mod data;
 pub mod ended;
+pub mod numbers;
 pub mod response;
 pub mod startup;
+pub mod values;
 
-// A sort of item that varies in size, so that a list of them is walked.
+// A sort of item: how one is read, and how those before it are passed.
 pub trait Item {
     ghost item: { F.Item };
 
@@ -27,29 +27,27 @@ pub trait Item {
     fn read(rules: Rules, frame: &[u8], c: Cursor) -> Result<(Element, Cursor), Refused>
         ensures { element_read result ≡ and_then (read_item rules item frame.now c.at) (λ s q. got (item.element s) q) };
 
-    // Each takes at least a byte, so that every walk ends.
-    ghost grows: { (rules : RulesOf) (f : List ℕ) → Grows rules item f };
+    // Past `count` items, each checked, whatever their first bytes.
+    fn pass(rules: Rules, frame: &[u8], c: Cursor, count: usize) -> Result<Cursor, Refused>
+        ensures { passed_read result ≡ pass_items rules item count frame.now c.at }
+    {
+        let mut c = c;
+        for _ in 0..count {
+            let (_, next) = Self::read(rules, frame, c)?;
+            c = next;
+        }
+        Ok(c)
+    }
 }
+
+pub struct Oid;
+
+pub struct Format;
+
+pub struct Value;
 
 pub struct RowField;
 
 pub struct ErrorField;
 
 pub struct Pair;
-
-// Past `count` items, each checked, whatever their first bytes.
-pub fn pass_items<I: Item>(
-    rules: Rules,
-    frame: &[u8],
-    c: Cursor,
-    count: usize,
-) -> Result<Cursor, Refused>
-    ensures { passed_read result ≡ pass_items rules I.item count frame.now c.at }
-{
-    let mut c = c;
-    for _ in 0..count {
-        let (_, next) = I::read(rules, frame, c)?;
-        c = next;
-    }
-    Ok(c)
-}

@@ -5,6 +5,7 @@ ghost use Rattle.protocol.specs.Reading.{read_item};
 ghost use Rattle.protocol.proofs.Ended.{error_grows};
 ghost use Rattle.items.specs.ItemRead.{error_read};
 
+use crate::ended::EndedItem;
 use crate::{ErrorField, Item};
 use codec::Cursor;
 use protocol::refusal::{Refusal, Refused};
@@ -26,10 +27,12 @@ pub fn error_field(rules: Rules, frame: &[u8], c: Cursor) -> Result<((u8, Span),
 impl Item for ErrorField {
     ghost item = { K.error_field };
 
-    ghost grows = { error_grows };
-
     fn read(rules: Rules, frame: &[u8], c: Cursor) -> Result<(Element, Cursor), Refused> {
         let ((code, string), c) = error_field(rules, frame, c)?;
         Ok((Element::ErrorField(code, string), c))
     }
+}
+
+impl EndedItem for ErrorField {
+    ghost grows = { error_grows };
 }

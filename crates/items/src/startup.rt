@@ -5,6 +5,7 @@ ghost use Rattle.protocol.specs.Reading.{read_item};
 ghost use Rattle.protocol.proofs.Ended.{pair_grows};
 ghost use Rattle.items.specs.ItemRead.{pair_read};
 
+use crate::ended::EndedItem;
 use crate::{Item, Pair};
 use codec::Cursor;
 use protocol::refusal::{Refusal, Refused};
@@ -26,10 +27,12 @@ pub fn pair(rules: Rules, frame: &[u8], c: Cursor) -> Result<((Span, Span), Curs
 impl Item for Pair {
     ghost item = { K.pair };
 
-    ghost grows = { pair_grows };
-
     fn read(rules: Rules, frame: &[u8], c: Cursor) -> Result<(Element, Cursor), Refused> {
         let ((name, value), c) = pair(rules, frame, c)?;
         Ok((Element::Pair(name, value), c))
     }
+}
+
+impl EndedItem for Pair {
+    ghost grows = { pair_grows };
 }

@@ -11,7 +11,7 @@ pub returns-in_default : goal.returns-in_default
 unfolding read_ended
 returns-in_default g c =
     let a = c.args in
-    let on = g.met.I.Item.grows a.rules a.frame.now in
+    let on = g.met.I.EndedItem.grows a.rules a.frame.now in
     let short = not_whole 1 _ _ _ _ (sym c.in_default.ensures) in
     rw (c.at.ensures, ← ended_cut _ _ _ on _ _ short ∙ c.loop-first.invariant.same_list) refl
 
@@ -19,7 +19,7 @@ pub returns-then-first-eq0 : goal.returns-then-first-eq0
 unfolding read_ended
 returns-then-first-eq0 g c =
     let a = c.args in
-    let on = g.met.I.Item.grows a.rules a.frame.now in
+    let on = g.met.I.EndedItem.grows a.rules a.frame.now in
     rw (← ended_zero _ _ _ on _ _ _ _ c.in-Some.ensures c.if-first-eq0.true ∙ c.loop-first.invariant.same_list) refl
 
 pub returns-in_err-next : goal.returns-in_err-next
@@ -27,7 +27,7 @@ unfolding read_ended
 returns-in_err-next g c =
     let a = c.args in
     let i = g.I.Item.item in
-    let on = g.met.I.Item.grows a.rules a.frame.now in
+    let on = g.met.I.EndedItem.grows a.rules a.frame.now in
     let p = err_from_is_err_and c.from_residual.result c.from_residual.ensures.1 in
     let cut = not_passed _ i _ _ i.element c.in_err-next.ensures in
     rw (p.1, p.2, ← ended_bad _ _ _ on _ _ _ _ c.in-Some.ensures c.if-first-eq0.false _ _ cut ∙ c.loop-first.invariant.same_list) refl
@@ -36,14 +36,14 @@ pub overflow_add-count : goal.overflow_add-count
 overflow_add-count g c =
     let a = c.args in
     let i = g.I.Item.item in
-    let on = g.met.I.Item.grows a.rules a.frame.now in
+    let on = g.met.I.EndedItem.grows a.rules a.frame.now in
     omega (arith, c.loop-first.invariant.further, further a.rules i a.frame.now _ i.element on c.in_ok-next.ensures)
 
 pub loop-first-smaller : goal.loop-first-smaller
 loop-first-smaller g c =
     let a = c.args in
     let i = g.I.Item.item in
-    let on = g.met.I.Item.grows a.rules a.frame.now in
+    let on = g.met.I.EndedItem.grows a.rules a.frame.now in
     let w = whole 1 _ _ _ _ (sym c.in-Some.ensures) in
     omega (arith, w.fits, w.next, further a.rules i a.frame.now _ i.element on c.in_ok-next.ensures)
 
@@ -51,7 +51,7 @@ pub loop-first-preserved : goal.loop-first-preserved
 loop-first-preserved g c =
     let a = c.args in
     let i = g.I.Item.item in
-    let on = g.met.I.Item.grows a.rules a.frame.now in
+    let on = g.met.I.EndedItem.grows a.rules a.frame.now in
     let past = passed _ i _ _ i.element c.in_ok-next.ensures in
     record {
       same_list = rw (add-one c.loop-first.count) (ended_more _ _ _ on _ _ _ _ c.in-Some.ensures c.if-first-eq0.false _ past ∙ c.loop-first.invariant.same_list);
