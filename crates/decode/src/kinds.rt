@@ -3,8 +3,9 @@
 ghost use Rattle.std.specs.Prelude.{◌≡◌};
 ghost use Rattle.protocol.specs.Decode.{decode_in};
 ghost use Rattle.protocol.specs.Kinds as K;
+ghost use Rattle.protocol.specs.Told.{decoded};
 
-use codec::{Byte, Cursor, Word};
+use codec::Cursor;
 use messages::{cancel, copy, data, extendedquery, response, simplequery, startup, terminate};
 use protocol::cancel::CancelRequest;
 use protocol::copy::{
@@ -22,7 +23,7 @@ use protocol::extendedquery::{
     MESSAGE_TYPE_BYTE_FLUSH, MESSAGE_TYPE_BYTE_PARSE, MESSAGE_TYPE_BYTE_PARSE_COMPLETE,
     MESSAGE_TYPE_BYTE_PORTAL_SUSPENDED, MESSAGE_TYPE_BYTE_SYNC,
 };
-use protocol::refusal::TYPE_UNKNOWN;
+use protocol::refusal::{Refusal, Unread};
 use protocol::response::{
     GssEncResponse, MESSAGE_TYPE_BYTE_COMMAND_COMPLETE, MESSAGE_TYPE_BYTE_EMPTY_QUERY_RESPONSE,
     MESSAGE_TYPE_BYTE_ERROR_RESPONSE, MESSAGE_TYPE_BYTE_NOTICE_RESPONSE,
@@ -34,15 +35,15 @@ use protocol::startup::{
     SslRequest, Startup,
 };
 use protocol::terminate::MESSAGE_TYPE_BYTE_TERMINATE;
-use protocol::{Decoded, Message, Rules};
+use protocol::{Message, Rules};
 
 // Mode 0: a type byte of the frontend.
-pub fn frontend(rules: Rules, buf: &[u8]) -> Decoded
-    ensures { result ≡ decode_in rules K.frontend buf.now }
+pub fn frontend(rules: Rules, buf: &[u8]) -> Result<(Message, usize), Unread>
+    ensures { decoded result ≡ decode_in rules K.frontend buf.now }
 {
     let c = Cursor { at: 0 };
-    let Byte::Is(type_byte, _) = c.byte(buf) else {
-        return Decoded::NeedMore;
+    let Some((type_byte, _)) = c.byte(buf) else {
+        return Err(Unread::NeedMore);
     };
     match type_byte {
         MESSAGE_TYPE_BYTE_PARSE => extendedquery::parse(rules, buf),
@@ -57,17 +58,17 @@ pub fn frontend(rules: Rules, buf: &[u8]) -> Decoded
         MESSAGE_TYPE_BYTE_COPY_FAIL => copy::copy_fail(rules, buf),
         MESSAGE_TYPE_BYTE_QUERY => simplequery::query(rules, buf),
         MESSAGE_TYPE_BYTE_TERMINATE => terminate::terminate(rules, buf),
-        _ => Decoded::Refused(TYPE_UNKNOWN, 0),
+        _ => Err(Unread::Refused(Refusal::TypeUnknown.at(0))),
     }
 }
 
 // Mode 1: a type byte of the backend.
-pub fn backend(rules: Rules, buf: &[u8]) -> Decoded
-    ensures { result ≡ decode_in rules K.backend buf.now }
+pub fn backend(rules: Rules, buf: &[u8]) -> Result<(Message, usize), Unread>
+    ensures { decoded result ≡ decode_in rules K.backend buf.now }
 {
     let c = Cursor { at: 0 };
-    let Byte::Is(type_byte, _) = c.byte(buf) else {
-        return Decoded::NeedMore;
+    let Some((type_byte, _)) = c.byte(buf) else {
+        return Err(Unread::NeedMore);
     };
     match type_byte {
         MESSAGE_TYPE_BYTE_PARSE_COMPLETE => extendedquery::parse_complete(rules, buf),
@@ -91,7 +92,7 @@ pub fn backend(rules: Rules, buf: &[u8]) -> Decoded
         MESSAGE_TYPE_BYTE_COPY_DATA => copy::copy_data(rules, buf),
         MESSAGE_TYPE_BYTE_PARAMETER_STATUS => startup::parameter_status(rules, buf),
         MESSAGE_TYPE_BYTE_BACKEND_KEY_DATA => startup::backend_key_data(rules, buf),
-        _ => Decoded::Refused(TYPE_UNKNOWN, 0),
+        _ => Err(Unread::Refused(Refusal::TypeUnknown.at(0))),
     }
 }
 
@@ -99,74 +100,74 @@ pub fn backend(rules: Rules, buf: &[u8]) -> Decoded
 const CODE_AT: usize = 4;
 
 // Mode 2: a code after the length, which is looked at first.
-pub fn cancel(rules: Rules, buf: &[u8]) -> Decoded
-    ensures { result ≡ decode_in rules K.cancel buf.now }
+pub fn cancel(rules: Rules, buf: &[u8]) -> Result<(Message, usize), Unread>
+    ensures { decoded result ≡ decode_in rules K.cancel buf.now }
 {
     let c = Cursor { at: CODE_AT };
-    let Word::Is(code, _) = c.word(buf) else {
-        return Decoded::NeedMore;
+    let Some((code, _)) = c.word(buf) else {
+        return Err(Unread::NeedMore);
     };
     match code {
         CancelRequest::CANCEL_REQUEST_CODE => cancel::cancel_request(rules, buf),
-        _ => Decoded::Refused(TYPE_UNKNOWN, CODE_AT),
+        _ => Err(Unread::Refused(Refusal::TypeUnknown.at(CODE_AT))),
     }
 }
 
 // Mode 3: the answer to a request for TLS, one byte, which is all of it.
-pub fn tls_answer(rules: Rules, buf: &[u8]) -> Decoded
-    ensures { result ≡ decode_in rules K.tls_answer buf.now }
+pub fn tls_answer(rules: Rules, buf: &[u8]) -> Result<(Message, usize), Unread>
+    ensures { decoded result ≡ decode_in rules K.tls_answer buf.now }
 {
     let c = Cursor { at: 0 };
-    let Byte::Is(answer, _) = c.byte(buf) else {
-        return Decoded::NeedMore;
+    let Some((answer, _)) = c.byte(buf) else {
+        return Err(Unread::NeedMore);
     };
     match answer {
-        SslResponse::BYTE_ACCEPT => Decoded::Record(
+        SslResponse::BYTE_ACCEPT => Ok((
             Message::SslResponse(SslResponse::Accept),
             SslResponse::MESSAGE_LENGTH,
-        ),
-        SslResponse::BYTE_REFUSE => Decoded::Record(
+        )),
+        SslResponse::BYTE_REFUSE => Ok((
             Message::SslResponse(SslResponse::Refuse),
             SslResponse::MESSAGE_LENGTH,
-        ),
-        _ => Decoded::Refused(TYPE_UNKNOWN, 0),
+        )),
+        _ => Err(Unread::Refused(Refusal::TypeUnknown.at(0))),
     }
 }
 
 // Mode 4: the answer to a request for GSS encryption, one byte, which is all of it.
-pub fn gss_answer(rules: Rules, buf: &[u8]) -> Decoded
-    ensures { result ≡ decode_in rules K.gss_answer buf.now }
+pub fn gss_answer(rules: Rules, buf: &[u8]) -> Result<(Message, usize), Unread>
+    ensures { decoded result ≡ decode_in rules K.gss_answer buf.now }
 {
     let c = Cursor { at: 0 };
-    let Byte::Is(answer, _) = c.byte(buf) else {
-        return Decoded::NeedMore;
+    let Some((answer, _)) = c.byte(buf) else {
+        return Err(Unread::NeedMore);
     };
     match answer {
-        GssEncResponse::BYTE_ACCEPT => Decoded::Record(
+        GssEncResponse::BYTE_ACCEPT => Ok((
             Message::GssEncResponse(GssEncResponse::Accept),
             GssEncResponse::MESSAGE_LENGTH,
-        ),
-        GssEncResponse::BYTE_REFUSE => Decoded::Record(
+        )),
+        GssEncResponse::BYTE_REFUSE => Ok((
             Message::GssEncResponse(GssEncResponse::Refuse),
             GssEncResponse::MESSAGE_LENGTH,
-        ),
-        _ => Decoded::Refused(TYPE_UNKNOWN, 0),
+        )),
+        _ => Err(Unread::Refused(Refusal::TypeUnknown.at(0))),
     }
 }
 
 // Mode 5: the word after the length, which is looked at first.
-pub fn first_packet(rules: Rules, buf: &[u8]) -> Decoded
-    ensures { result ≡ decode_in rules K.first_packet buf.now }
+pub fn first_packet(rules: Rules, buf: &[u8]) -> Result<(Message, usize), Unread>
+    ensures { decoded result ≡ decode_in rules K.first_packet buf.now }
 {
     let c = Cursor { at: CODE_AT };
-    let Word::Is(word, _) = c.word(buf) else {
-        return Decoded::NeedMore;
+    let Some((word, _)) = c.word(buf) else {
+        return Err(Unread::NeedMore);
     };
     match word {
         Startup::PROTOCOL_VERSION_3_0 => startup::startup(rules, buf),
         SslRequest::BODY_MAGIC_NUMBER => startup::ssl_request(rules, buf),
         GssEncRequest::BODY_MAGIC_NUMBER => startup::gss_enc_request(rules, buf),
         CancelRequest::CANCEL_REQUEST_CODE => cancel::cancel_request(rules, buf),
-        _ => Decoded::Refused(TYPE_UNKNOWN, c.at),
+        _ => Err(Unread::Refused(Refusal::TypeUnknown.at(c.at))),
     }
 }

@@ -1,24 +1,24 @@
 -- `decode::part` meets its contract: within the buffer, or empty.
-use Prim.Native.Nat.{ℕ, ◌+◌, ◌-◌}
-use mathlib.Core.Path.{◌≡◌, refl, ap}
-use native.Mathlib.Omega.{arith}
+use Rattle.std.proofs.Common.{◌+◌, ◌-◌, ◌<◌, ◌≤◌, length, drop, refl, inl, inr, arith}
+use Rattle.std.proofs.lemmas.List.{take_all, length-drop}
 use borrow.Author.Tests.{lt-ltb, le-ltb}
-use lib.ListN.{length, take, drop}
 use Rattle.protocol.specs.Bytes.{part_of}
 use Rattle.decode.proofs.part.Goals as goal
 
-pub returns-then-buf-start : goal.returns-then-buf-start
+pub returns-in_default : goal.returns-in_default
 unfolding part_of
-returns-then-buf-start c = let a = c.args in
-    rw (lt-ltb (length a.buf.now) (a.start + a.len) (omega arith)) refl
+returns-in_default c = let a = c.args in
+    let short : length a.buf.now < a.start = elim c.in_default.ensures.lookup.0 [ inl h ↦ h | inr h ↦ omega (arith, h) ] in
+    rw (lt-ltb (length a.buf.now) (a.start + a.len) (omega (arith, short))) refl
 
-pub returns-then-buf-start-2 : goal.returns-then-buf-start-2
+pub returns-then-rest-len : goal.returns-then-rest-len
 unfolding part_of
-returns-then-buf-start-2 c = let a = c.args in
-    rw (lt-ltb (length a.buf.now) (a.start + a.len) (omega arith)) refl
+returns-then-rest-len c = let a = c.args in
+    rw (lt-ltb (length a.buf.now) (a.start + a.len) (omega (arith, c.in-Some.ensures.lookup.0.3, c.if-rest-len.true))) refl
 
 pub returns : goal.returns
 unfolding part_of
 returns c = let a = c.args in
-    let len : a.start + a.len - a.start ≡ a.len = omega arith in
-    rw (le-ltb (length a.buf.now) (a.start + a.len) (omega arith)) (ap (λ (n : ℕ). take n (drop a.start a.buf.now)) len)
+    let k = c.in-Some.ensures.lookup.0 in
+    let all : length (drop a.start a.buf.now) ≤ length a.buf.now - a.start = omega (arith, length-drop a.start a.buf.now) in
+    rw (le-ltb (length a.buf.now) (a.start + a.len) (omega (arith, k.3, c.if-rest-len.false)), k.2, take_all (length a.buf.now - a.start) (drop a.start a.buf.now) all) refl
