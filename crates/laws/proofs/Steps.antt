@@ -19,8 +19,8 @@ use Rattle.protocol.specs.Stream as Stream
 use Rattle.protocol.specs.Stream.{whole, need_more, refused, frame, stop, step_by, step_at}
 use Rattle.protocol.proofs.Basics.{zero_one}
 use Rattle.listing.specs.Listing.{of_step, step_of}
-use Rattle.listing.specs.declared.Step.TheVariants as S
-use Rattle.listing.specs.declared.Step.{Step}
+use Rattle.listing.specs.Step as S
+use Rattle.listing.specs.Step.{Step}
 use Rattle.laws.specs.ListingStatements.{StepSays, Steps, StepsNumbered}
 use Rattle.laws.specs.Statements.{the_decoder, GivesNothing}
 use Rattle.laws.proofs.Answered.{not_success, refusal_is, needs_refusal}

@@ -8,7 +8,7 @@ use Rattle.protocol.specs.Answers.{success, needs_more, refusal, of_decoded}
 use Rattle.protocol.specs.Bytes.{Bytes}
 use Rattle.protocol.specs.Stream.{step_at}
 use Rattle.listing.specs.Listing.{of_step, step_of}
-use Rattle.listing.specs.declared.Step.{Step}
+use Rattle.listing.specs.Step.{Step}
 use Rattle.laws.specs.Statements.{Decoder, IsNumbered, decode_numbers}
 
 -- At p no byte is left exactly where the step says whole, with no message and nothing consumed. Else it says what decoding says of the bytes from p

@@ -41,9 +41,13 @@ use Rattle.envelope.specs.Header as H
 use Rattle.envelope.specs.Header.{Header}
 use Rattle.envelope.specs.Steps.{headed, unread}
 use Rattle.items.specs.ItemRead.{error_read, field_read, pair_read}
-use Rattle.listing.specs.Listing.{step_of}
-use Rattle.listing.specs.declared.Step.TheVariants as S
-use Rattle.listing.specs.declared.Step.{Step}
+use Rattle.listing.specs.Listing.{step_of, step_told, end_told, opening_told}
+use Rattle.listing.specs.Opening as O
+use Rattle.listing.specs.Opening.{Opening}
+use Rattle.listing.specs.declared.BadInput.TheVariants as B
+use Rattle.listing.specs.declared.BadInput.{BadInput}
+use Rattle.listing.specs.declared.End.TheVariants as E
+use Rattle.listing.specs.declared.End.{End}
 use Rattle.writers.proofs.Puts.{has_room}
 use Rattle.reader.specs.Row.{row_told, places_in, starts_of, lengths_of, over}
 use Rattle.reader.specs.RowAnswer as Row
@@ -197,17 +201,35 @@ headed_again (Ok n) = refl
 headed_again (Err U.NeedMore) = refl
 headed_again (Err (U.Refused r)) = ap (λ (x : Refused). Err (U.Refused x)) (refused_again r)
 
-abbrev listing_back : Stream.Step → Step
-step_back (frame m n) = S.Frame m n
-step_back (stop whole) = S.Whole
-step_back (stop need_more) = S.NeedMore
-step_back (stop (refused number)) = S.Refused number
+abbrev end_back : Stream.End → End
+end_back whole = E.Whole
+end_back need_more = E.NeedMore
+end_back (refused number) = E.Refused (refusal_back number)
 
-step_again : (r : Step) → step_back (step_of r) ≡ r
-step_again (S.Frame m n) = refl
-step_again S.Whole = refl
-step_again S.NeedMore = refl
-step_again (S.Refused number) = refl
+end_again : (r : End) → end_back (end_told r) ≡ r
+end_again E.Whole = refl
+end_again E.NeedMore = refl
+end_again (E.Refused r) = ap E.Refused (refusal_again r)
+
+abbrev listing_back : Stream.Step → Result (Message × ℕ) End
+listing_back (frame m n) = Ok (m, n)
+listing_back (stop end) = Err (end_back end)
+
+listing_again : (r : Result (Message × ℕ) End) → listing_back (step_of (step_told r)) ≡ r
+listing_again (Ok (m, n)) = refl
+listing_again (Err E.Whole) = refl
+listing_again (Err E.NeedMore) = refl
+listing_again (Err (E.Refused r)) = ap (λ (x : Refusal). Err (E.Refused x)) (refusal_again r)
+
+abbrev opening_back : Opening → Result Mode BadInput
+opening_back (O.Mode number) = Ok (mode_back number)
+opening_back O.NoMode = Err B.NoMode
+opening_back O.Oversize = Err B.Oversize
+
+opening_again : (r : Result Mode BadInput) → opening_back (opening_told r) ≡ r
+opening_again (Ok mode) = ap Ok (mode_again mode)
+opening_again (Err B.NoMode) = refl
+opening_again (Err B.Oversize) = refl
 
 rest_one : {n m : ℕ} (r s : Span) → got r n ≡ got s m → r ≡ s
 rest_one r s e = cc
@@ -241,7 +263,11 @@ items_tell = record {
 }
 
 pub listing_tells : ListingTells
-listing_tells = told_back step_of step_back step_again
+listing_tells = record {
+  step = told_back (λ r. step_of (step_told r)) listing_back listing_again;
+  ending = told_back end_told end_back end_again;
+  opening = told_back opening_told opening_back opening_again;
+}
 
 -- ---- what a definition says
 

@@ -5,6 +5,7 @@ use Rattle.std.specs.Prelude.{ℕ, Bool, List, ◌≡◌, ℤ, Result, MatchResu
 use Rattle.std.proofs.Math.Option.{Option}
 use Rattle.std.specs.Borrow.{Bor}
 use Rattle.protocol.specs.declared.List.{List as ListSlot}
+use Rattle.protocol.specs.declared.Message.{Message}
 use Rattle.protocol.specs.declared.Span.{Span}
 use Rattle.protocol.specs.declared.refusal.Refused.{Refused}
 use Rattle.protocol.specs.declared.refusal.Unread.{Unread}
@@ -20,7 +21,8 @@ use Rattle.host.specs.Asked.{Asked, Answers}
 use Rattle.host_parts.specs.Built.{Renews}
 use Rattle.host_parts.specs.Reads.{LaysRow}
 use Rattle.items.specs.ItemRead.{field_read, error_read, pair_read}
-use Rattle.listing.specs.Listing.{Lines, Fills, step_of}
+use Rattle.listing.specs.Listing.{Lines, Fills, step_of, step_told, end_told, opening_told}
+use Rattle.listing.specs.declared.End.{End}
 use Rattle.listing.specs.declared.Filled.{Filled}
 use Rattle.reader.specs.Row.{ReadsRow, row_told}
 use Rattle.reader.specs.declared.FrameReader.{FrameReader}
@@ -81,9 +83,11 @@ pub record ItemsTell : Type 0 where
   pub error_field : Tells error_read
   pub pair : Tells pair_read
 
--- a step of the listing
-abbrev pub ListingTells : Type 0
-ListingTells = Tells step_of
+-- a step of the listing, how its stream ends, and how an input opens
+pub record ListingTells : Type 0 where
+  pub step : Tells (λ (r : Result (Message × ℕ) End). step_of (step_told r))
+  pub ending : Tells end_told
+  pub opening : Tells opening_told
 
 -- `(set r ≡ definition) × (x ≡ left (set r))`, where `set` tells the case: of the answer, and of what it leaves in a lent buffer
 abbrev pub ToldWithBuffer : Type 1
