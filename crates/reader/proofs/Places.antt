@@ -8,7 +8,7 @@ use native.Mathlib.Nat.{zero-add}
 use native.Mathlib.Omega.{arith}
 use borrow.Author.Tests.{ltb-true}
 use lib.Dec.{ltb}
-use lib.IntN.{ℤ, pos, negsuc}
+use lib.IntN.{pos, negsuc}
 use lib.ListN.{length, set, length-map}
 use lib.Signed.{mag}
 use lib.Seq.{sets, sets-eq}
@@ -16,12 +16,9 @@ use Rattle.protocol.specs.declared.Span.{Span}
 use Rattle.protocol.specs.Bytes.{longest}
 use Rattle.protocol.specs.Reading.{Read, got, bad, read_value}
 use Rattle.protocol.proofs.Basics.{zero_one}
-use Rattle.reader.specs.declared.row.Entry.TheVariants as E
+use Rattle.std.proofs.Common.{Option as Maybe, Some, None}
 use Rattle.reader.specs.declared.row.Entry.{Entry}
 use Rattle.reader.specs.Row.{Place, length_word, entry_of, places_by, places_from, over}
-
-is_stop : {start next : ℕ} {len : ℤ} → E.Is start len next ≡ E.Stop → ⊥
-is_stop e = zero_one cc
 
 -- ---- an entry's length fits a signed word
 
@@ -29,17 +26,17 @@ word_fits : (n : ℕ) (t : Bool) → ltb n (suc longest) ≡ t → mag (cond t (
 word_fits n true h = ltb-true n (suc longest) h
 word_fits n false h = omega arith
 
-pub length_fits : (r : Read (Option Span)) (start next : ℕ) (len : ℤ) → E.Is start len next ≡ entry_of r → mag len < suc longest
+pub length_fits : (r : Read (Option Span)) (x : Entry) → Some x ≡ entry_of r → mag x.length < suc longest
 unfolding entry_of
-length_fits (got none q) start next len e = let is : len ≡ negsuc 0 = cc in rw is (omega arith)
-length_fits (got (some s) q) start next len e = let is : len ≡ length_word s.len = cc in rw is (word_fits s.len (ltb s.len (suc longest)) refl)
-length_fits (bad number place) start next len e = absurd (is_stop e)
+length_fits (got none q) x e = let is : x.length ≡ negsuc 0 = cc in rw is (omega arith)
+length_fits (got (some s) q) x e = let is : x.length ≡ length_word s.len = cc in rw is (word_fits s.len (ltb s.len (suc longest)) refl)
+length_fits (bad number place) x e = absurd (zero_one cc)
 
 -- ---- the entries that are left
 
-few_by : (e : Entry) (rest : ℕ → List Place) (n : ℕ) → ((q : ℕ) → length (rest q) ≤ n) → length (places_by e rest) ≤ suc n
-few_by (E.Is start len next) rest n h = let l = h next in omega arith
-few_by E.Stop rest n h = omega arith
+few_by : (e : Maybe Entry) (rest : ℕ → List Place) (n : ℕ) → ((q : ℕ) → length (rest q) ≤ n) → length (places_by e rest) ≤ suc n
+few_by (Some e) rest n h = let l = h e.next in omega arith
+few_by None rest n h = omega arith
 
 -- there are no more entries than values
 few : (n : ℕ) (f : List ℕ) (p : ℕ) → length (places_from n f p) ≤ n
@@ -57,16 +54,16 @@ module _ {A : Type 0} (part : Place → A) (f : List ℕ) where
       let e : count - 0 ≡ count = omega arith in
       ap (λ (n : ℕ). sets d 0 (left n p)) e
 
-  pub turn : (d e : List A) (i count p start next : ℕ) (len : ℤ) → i < count → E.Is start len next ≡ entry_of (read_value f p) → sets d i (left (count - i) p) ≡ e
-      → sets (set d i (part (record { start = start; length = len }))) (i + 1) (left (count - (i + 1)) next) ≡ e
+  pub turn : (d e : List A) (i count p : ℕ) (x : Entry) → i < count → Some x ≡ entry_of (read_value f p) → sets d i (left (count - i) p) ≡ e
+      → sets (set d i (part (record { start = x.start; length = x.length }))) (i + 1) (left (count - (i + 1)) x.next) ≡ e
   unfolding places_from
-  turn d e i count p start next len h is rest =
+  turn d e i count p x h is rest =
       let n : count - i ≡ suc (count - (i + 1)) = omega arith in
-      let one : left (count - i) p ≡ part (record { start = start; length = len }) ∷ left (count - (i + 1)) next = rw (n, ← is) refl in
+      let one : left (count - i) p ≡ part (record { start = x.start; length = x.length }) ∷ left (count - (i + 1)) x.next = rw (n, ← is) refl in
       let e : i + 1 ≡ suc i = omega arith in
-      ap (λ (k : ℕ). sets (set d i (part (record { start = start; length = len }))) k (left (count - (i + 1)) next)) e ∙ rw one at rest
+      ap (λ (k : ℕ). sets (set d i (part (record { start = x.start; length = x.length }))) k (left (count - (i + 1)) x.next)) e ∙ rw one at rest
 
-  pub stopped : (d e : List A) (i count p : ℕ) → i < count → E.Stop ≡ entry_of (read_value f p) → sets d i (left (count - i) p) ≡ e → d ≡ e
+  pub stopped : (d e : List A) (i count p : ℕ) → i < count → None ≡ entry_of (read_value f p) → sets d i (left (count - i) p) ≡ e → d ≡ e
   unfolding places_from
   stopped d e i count p h is rest =
       let n : count - i ≡ suc (count - (i + 1)) = omega arith in

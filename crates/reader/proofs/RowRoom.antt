@@ -1,14 +1,12 @@
 -- When a message is no row, and when there is room for one.
 use Prim.Native.Nat.{ℕ, ◌≤◌, ◌<◌}
-use mathlib.Core.Bool.{Bool, true, false, cond, not, ◌&&◌, ◌||◌, and-false}
-use mathlib.Core.List.{List, [], ◌∷◌}
+use mathlib.Core.Bool.{Bool, true, false, cond, ◌&&◌, and-false}
+use mathlib.Core.List.{List}
 use mathlib.Core.Logic.{◌⊎◌, inl, inr}
 use mathlib.Core.Option.{Option, some, none}
 use mathlib.Core.Path.{◌≡◌, refl, ap, sym, subst, ◌∙◌}
-use native.Mathlib.Omega.{arith}
 use borrow.Author.Tests.{leb-true, le-leb, lt-leb}
-use lib.Dec.{T, eqb, leb}
-use lib.IntN.{ℤ}
+use lib.Dec.{eqb, leb}
 use lib.ListN.{length}
 use Rattle.protocol.specs.Decoded as D
 use Rattle.protocol.specs.Decoded.{Decoded}
@@ -20,18 +18,21 @@ use Rattle.protocol.specs.declared.Rules.{Rules}
 use Rattle.protocol.specs.Each.{Each}
 use Rattle.protocol.specs.Elements.{list_in, list_of}
 use Rattle.protocol.specs.Fields.{Slot}
-use Rattle.protocol.specs.Kinds.{Kind, Mode, modes, find, the_table, data_row}
-use Rattle.protocol.specs.Views.{view, kind_number, is_kind, numbered}
+use Rattle.protocol.specs.Kinds.{Kind, Mode, modes, the_table, data_row}
+use Rattle.protocol.specs.Views.{view, kind_number, is_kind}
 use Rattle.protocol.proofs.Find.{All}
 use Rattle.protocol.proofs.Framed.{record_size}
 use Rattle.protocol.proofs.Basics.{zero_one}
 use Rattle.protocol.proofs.Views.{made, each_row}
 use Rattle.protocol.specs.Decode.{decode_of}
 use Rattle.protocol.specs.Refusals.{no_such_element, output_too_short}
-use Rattle.protocol.specs.Rules.{rules_of}
-use Rattle.reader.specs.declared.row.Row.TheVariants as R
-use Rattle.reader.specs.declared.row.Row.{Row}
-use Rattle.reader.specs.Row.{ReadsRow, row_by, row_fits, row_in}
+use Rattle.reader.specs.RowAnswer as R
+use Rattle.reader.specs.RowAnswer.{Row}
+use Rattle.std.proofs.Common.{Err}
+use Rattle.protocol.specs.Told.{decoded}
+use Rattle.protocol.specs.declared.refusal.Unread.TheVariants as U
+use Rattle.protocol.specs.declared.refusal.Unread.{Unread}
+use Rattle.reader.specs.Row.{row_by, row_fits, row_in, row_told}
 
 -- ---- which message is a row
 
@@ -93,14 +94,21 @@ refused m h consumed starts lengths = rw (no_row_lem m h) refl
 -- ---- the room for a row
 
 module _ (l : ListSlot) (consumed starts lengths : ℕ) where
-  pub too_few : (starts < l.count) ⊎ (lengths < l.count) → R.Refused output_too_short 0 ≡ row_fits (some l) consumed starts lengths
+  pub too_few : (starts < l.count) ⊎ ((l.count ≤ starts) × (lengths < l.count)) → R.Refused output_too_short 0 ≡ row_fits (some l) consumed starts lengths
   unfolding row_fits
   too_few (inl h) = rw (lt-leb _ _ h) refl
-  too_few (inr h) = rw (lt-leb _ _ h, and-false (leb l.count starts)) refl
+  too_few (inr h) = rw (lt-leb _ _ h.1, and-false (leb l.count starts)) refl
 
   pub enough : l.count ≤ starts → l.count ≤ lengths → R.Is l consumed ≡ row_fits (some l) consumed starts lengths
   unfolding row_fits
   enough h g = rw (le-leb _ _ h, le-leb _ _ g) refl
+
+-- ---- decoding's other answers
+
+pub unread : (u : Unread) (starts lengths : ℕ) → row_told (Err u) ≡ row_by (decoded (Err u)) starts lengths
+unfolding row_by
+unread U.NeedMore starts lengths = refl
+unread (U.Refused r) starts lengths = refl
 
 -- ---- an answer that is a row
 
@@ -135,9 +143,3 @@ row_by_lem rules s (D.Refused number place) starts lengths l n e q = absurd (is_
 
 pub is_row : (rules : Rules) (s : List ℕ) (starts lengths : ℕ) (l : ListSlot) (n : ℕ) → R.Is l n ≡ row_by (decode_of rules s) starts lengths → IsRow s starts lengths l n
 is_row rules s starts lengths l n e = row_by_lem rules s (decode_of rules s) starts lengths l n refl e
-
--- where the answer is none, nothing is stored
-pub kept : (s starts : List ℕ) (lengths : List ℤ) (r : Row) → ((l : ListSlot) (n : ℕ) → r ≡ R.Is l n → ⊥) → r ≡ row_by (decode_of (rules_of 1) s) (length starts) (length lengths) → ReadsRow s starts lengths r starts lengths
-kept s starts lengths (R.Is l n) h e = absurd (h l n refl)
-kept s starts lengths R.NeedMore h e = record { answer = e; starts = refl; lengths = refl }
-kept s starts lengths (R.Refused number place) h e = record { answer = e; starts = refl; lengths = refl }

@@ -1,1 +1,2 @@
+pub mod RowAnswer
 pub mod Row

@@ -1,5 +1,6 @@
 -- A whole row at once: an entry for each value, in two lists of numbers.
-use Rattle.std.specs.Prelude.{ℕ, zero, suc, cond, ◌&&◌, List, [], ◌∷◌, ◌++◌, map, ◌≡◌, leb, ltb, ℤ, pos, negsuc, length, take, drop}
+use Rattle.std.specs.Prelude.{ℕ, zero, suc, cond, ◌&&◌, List, [], ◌∷◌, ◌++◌, map, ◌≡◌, leb, ltb, ℤ, pos, negsuc, length, take, drop, Result, Ok, Err}
+use Rattle.std.specs.Prelude.{Option as Maybe, Some, None}
 use Rattle.std.proofs.Math.Option.{Option, some, none}
 use Rattle.protocol.specs.Decoded as D
 use Rattle.protocol.specs.Decoded.{Decoded}
@@ -15,10 +16,13 @@ use Rattle.protocol.specs.Reading.{Read, got, bad, read_value}
 use Rattle.protocol.specs.Refusals.{no_such_element, output_too_short}
 use Rattle.protocol.specs.Rules.{rules_of}
 use Rattle.protocol.specs.Views.{is_kind}
-use Rattle.reader.specs.declared.row.Entry.TheVariants as E
+use Rattle.protocol.specs.Told.{number_of}
+use Rattle.protocol.specs.declared.refusal.Refused.{Refused}
+use Rattle.protocol.specs.declared.refusal.Unread.TheVariants as U
+use Rattle.protocol.specs.declared.refusal.Unread.{Unread}
 use Rattle.reader.specs.declared.row.Entry.{Entry}
-use Rattle.reader.specs.declared.row.Row.TheVariants as R
-use Rattle.reader.specs.declared.row.Row.{Row}
+use Rattle.reader.specs.RowAnswer as R
+use Rattle.reader.specs.RowAnswer.{Row}
 
 -- ---- entries
 
@@ -35,18 +39,18 @@ abbrev pub length_of : Option Span → ℤ
 length_of none = negsuc 0
 length_of (some s) = length_word s.len
 
-unfoldable pub entry_of : Read (Option Span) → Entry
-entry_of (got v next) = E.Is (start_of v) (length_of v) next
-entry_of (bad number place) = E.Stop
+unfoldable pub entry_of : Read (Option Span) → Maybe Entry
+entry_of (got v next) = Some (record { start = start_of v; length = length_of v; next = next })
+entry_of (bad number place) = None
 
 pub record Place : Type 0 where
   pub start : ℕ
   pub length : ℤ
 
 -- an entry for each of n values from p on; they end at the first that is refused
-abbrev pub places_by : Entry → (ℕ → List Place) → List Place
-places_by (E.Is start length next) rest = record { start = start; length = length } ∷ rest next
-places_by E.Stop rest = []
+abbrev pub places_by : Maybe Entry → (ℕ → List Place) → List Place
+places_by (Some e) rest = record { start = e.start; length = e.length } ∷ rest e.next
+places_by None rest = []
 
 unfoldable pub places_from : ℕ → List ℕ → ℕ → List Place
 places_from zero f p = []
@@ -71,6 +75,16 @@ unfoldable pub row_by : Decoded → ℕ → ℕ → Row
 row_by (D.Record m n) starts lengths = row_fits (row_in m) n starts lengths
 row_by D.NeedMore starts lengths = R.NeedMore
 row_by (D.Refused number place) starts lengths = R.Refused number place
+
+-- what the code answers: of a message that n bytes were read for, and of a buffer
+abbrev pub room_told : ℕ → Result ListSlot Refused → Row
+room_told n (Ok l) = R.Is l n
+room_told n (Err r) = R.Refused (number_of r.refusal) r.place
+
+abbrev pub row_told : Result (ListSlot × ℕ) Unread → Row
+row_told (Ok (l, n)) = R.Is l n
+row_told (Err U.NeedMore) = R.NeedMore
+row_told (Err (U.Refused r)) = R.Refused (number_of r.refusal) r.place
 
 -- the row's values and the bytes consumed
 unfoldable pub of_row : Row → Answer ListSlot

@@ -1,8 +1,6 @@
 -- The loop of `reader::row::fill`.
-use Prim.Native.Nat.{ℕ, ◌-◌, ◌≤◌}
-use mathlib.Core.Path.{◌≡◌}
+use Rattle.std.proofs.Common.{ℕ, ◌-◌, ◌≡◌}
 use lib.IntN.{ℤ}
-use lib.ListN.{length}
 use lib.Seq.{sets}
 use Rattle.reader.specs.Row.{Place}
 use Rattle.reader.proofs.Places.{left}
@@ -16,9 +14,5 @@ len x = x.length
 
 abbrev pub invariant-loop-i : goal.invariant-loop-i
 invariant-loop-i l =
-    (l.i ≤ l.count) × (length l.starts ≡ length l.initial.starts) × (length l.lengths ≡ length l.initial.lengths)
-    × (sets l.starts l.i (left start l.frame (l.count - l.i) l.place) ≡ sets l.initial.starts 0 (left start l.frame l.count l.at))
+    (sets l.starts l.i (left start l.frame (l.count - l.i) l.place) ≡ sets l.initial.starts 0 (left start l.frame l.count l.at))
     × (sets l.lengths l.i (left len l.frame (l.count - l.i) l.place) ≡ sets l.initial.lengths 0 (left len l.frame l.count l.at))
-
-abbrev pub decreases-loop-i : goal.decreases-loop-i
-decreases-loop-i l = l.count - l.i

@@ -1,21 +1,15 @@
 -- `reader::row::row_in` meets its contract: a row for which there is room.
-use mathlib.Core.Logic.{inl, inr}
 use Rattle.reader.specs.Row.{row_fits}
 use Rattle.reader.proofs.RowRoom.{row_in_lem, refused, too_few, enough}
 use Rattle.reader.proofs.row.row_in.Goals as goal
 
 pub returns-in_default : goal.returns-in_default
-returns-in_default c = let a = c.args in
-    refused a.message c.in_default.not-DataRow a.end a.starts a.lengths
+returns-in_default c = λ n. rw c.at.ensures (refused c.args.message c.in_default.not-DataRow n c.args.starts c.args.lengths)
 
-pub returns-then-starts-count : goal.returns-then-starts-count
+pub returns-then-starts-list : goal.returns-then-starts-list
 unfolding row_fits
-returns-then-starts-count c = rw (c.in-DataRow.is, row_in_lem) (too_few _ _ _ _ (inl c.if-starts-count.true))
-
-pub returns-then-lengths-count : goal.returns-then-lengths-count
-unfolding row_fits
-returns-then-lengths-count c = rw (c.in-DataRow.is, row_in_lem) (too_few _ _ _ _ (inr c.if-lengths-count.true))
+returns-then-starts-list c = λ n. rw (c.at-then-starts-list.ensures, c.in-DataRow.is, row_in_lem) (too_few _ n _ _ c.then-starts-list.either)
 
 pub returns : goal.returns
 unfolding row_fits
-returns c = rw (c.in-DataRow.is, row_in_lem) (enough _ _ _ _ c.if-starts-count.false c.if-lengths-count.false)
+returns c = λ n. rw (c.in-DataRow.is, row_in_lem) (enough _ n _ _ c.if-starts-list.false c.if-lengths-list.false)

@@ -1,16 +1,20 @@
 -- `reader::row::row_of` meets its contract: what decoding answers, of a row.
-use mathlib.Core.Path.{refl, ◌∙◌}
+use Rattle.std.proofs.lemmas.Result.{err_from_is_err_and}
 use Rattle.reader.specs.Row.{row_by}
+use Rattle.reader.proofs.RowRoom.{unread}
 use Rattle.reader.proofs.row.row_of.Goals as goal
 
-pub returns-in-Record : goal.returns-in-Record
-unfolding row_by
-returns-in-Record c = c.row_in.ensures ∙ rw (← c.decode.ensures, c.in-Record.is) refl
+pub returns-in_err-message : goal.returns-in_err-message
+returns-in_err-message c =
+    let p = err_from_is_err_and c.from_residual.result c.from_residual.ensures.1 in
+    rw (p.1, p.2, ← c.in_err-message.ensures) (unread _ _ _)
 
-pub returns-in-NeedMore : goal.returns-in-NeedMore
+pub returns-in_err-list : goal.returns-in_err-list
 unfolding row_by
-returns-in-NeedMore c = rw (← c.decode.ensures, c.in-NeedMore.is) refl
+returns-in_err-list c =
+    let p = err_from_is_err_and c.from_residual-in_err-list.result c.from_residual-in_err-list.ensures.1 in
+    rw (p.1, p.2, ← c.in_ok-message.ensures) (c.in_err-list.ensures _)
 
-pub returns-in-Refused : goal.returns-in-Refused
+pub returns : goal.returns
 unfolding row_by
-returns-in-Refused c = rw (← c.decode.ensures, c.in-Refused.is) refl
+returns c = rw (← c.in_ok-message.ensures) (c.in_ok-list.ensures _)
