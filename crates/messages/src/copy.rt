@@ -1,10 +1,13 @@
 // The copy messages, as in copy.rs.
 ghost use Rattle.std.specs.Prelude.{◌≡◌};
 ghost use Rattle.protocol.specs.Decode.{decode_as};
+ghost use Rattle.protocol.specs.Each.{Each};
+ghost use Rattle.protocol.specs.Fields.{Slot};
 ghost use Rattle.protocol.specs.Kinds as K;
+ghost use Rattle.protocol.specs.declared.Message.{Message};
 ghost use Rattle.protocol.specs.Told.{decoded};
 ghost use Rattle.envelope.specs.Steps.{decode_made};
-ghost use Rattle.messages.specs.Shared.{copy_fields, copy_message};
+ghost use Rattle.messages.specs.Shared.{copy_both_response_message, copy_fields, copy_in_response_message, copy_out_response_message};
 
 use codec::{Cursor, signed8};
 use envelope::{TYPED_BODY, cut, fieldless, finished, typed};
@@ -40,41 +43,53 @@ pub fn copy_fail(rules: Rules, buf: &[u8]) -> Result<(Message, usize), Unread>
     finished(frame, c, Message::CopyFail(CopyFail { message }))
 }
 
-// Which of the three responses whose body is a format and the columns' formats.
-#[derive(Clone, Copy)]
-enum Direction {
-    In,
-    Out,
-    Both,
+// The three responses whose body is a format and the columns' formats.
+trait CopyResponse {
+    ghost makes: { Each Slot copy_fields → Message };
+
+    fn message(format: i8, column_formats: List) -> Message
+        ensures { result ≡ makes (format, (column_formats, tt)) };
 }
 
-fn copy_message(direction: Direction, format: i8, column_formats: List) -> Message
-    ensures { result ≡ copy_message direction (format, (column_formats, tt)) }
-{
-    match direction {
-        Direction::In => Message::CopyInResponse(CopyInResponse {
+impl CopyResponse for CopyInResponse {
+    ghost makes = { copy_in_response_message };
+
+    fn message(format: i8, column_formats: List) -> Message {
+        Message::CopyInResponse(CopyInResponse {
             format,
             column_formats,
-        }),
-        Direction::Out => Message::CopyOutResponse(CopyOutResponse {
-            format,
-            column_formats,
-        }),
-        Direction::Both => Message::CopyBothResponse(CopyBothResponse {
-            format,
-            column_formats,
-        }),
+        })
     }
 }
 
-// The body of the three responses.
-fn copy_response(
+impl CopyResponse for CopyOutResponse {
+    ghost makes = { copy_out_response_message };
+
+    fn message(format: i8, column_formats: List) -> Message {
+        Message::CopyOutResponse(CopyOutResponse {
+            format,
+            column_formats,
+        })
+    }
+}
+
+impl CopyResponse for CopyBothResponse {
+    ghost makes = { copy_both_response_message };
+
+    fn message(format: i8, column_formats: List) -> Message {
+        Message::CopyBothResponse(CopyBothResponse {
+            format,
+            column_formats,
+        })
+    }
+}
+
+fn response<R: CopyResponse>(
     rules: Rules,
     buf: &[u8],
     line: Line,
-    direction: Direction,
 ) -> Result<(Message, usize), Unread>
-    ensures { decoded result ≡ decode_made rules K.typed line copy_fields (copy_message direction) buf.now }
+    ensures { decoded result ≡ decode_made rules K.typed line copy_fields R.makes buf.now }
 {
     let frame = typed(buf, line)?;
     let c = Cursor { at: TYPED_BODY };
@@ -82,24 +97,23 @@ fn copy_response(
         return Err(cut(c));
     };
     let (column_formats, c) = c.formats(rules, Count::Signed, frame)?;
-    let message = copy_message(direction, signed8(format), column_formats);
-    finished(frame, c, message)
+    finished(frame, c, R::message(signed8(format), column_formats))
 }
 
 pub fn copy_in_response(rules: Rules, buf: &[u8]) -> Result<(Message, usize), Unread>
     ensures { decoded result ≡ decode_as rules K.typed K.copy_in_response buf.now }
 {
-    copy_response(rules, buf, kinds::COPY_IN_RESPONSE, Direction::In)
+    response::<CopyInResponse>(rules, buf, kinds::COPY_IN_RESPONSE)
 }
 
 pub fn copy_out_response(rules: Rules, buf: &[u8]) -> Result<(Message, usize), Unread>
     ensures { decoded result ≡ decode_as rules K.typed K.copy_out_response buf.now }
 {
-    copy_response(rules, buf, kinds::COPY_OUT_RESPONSE, Direction::Out)
+    response::<CopyOutResponse>(rules, buf, kinds::COPY_OUT_RESPONSE)
 }
 
 pub fn copy_both_response(rules: Rules, buf: &[u8]) -> Result<(Message, usize), Unread>
     ensures { decoded result ≡ decode_as rules K.typed K.copy_both_response buf.now }
 {
-    copy_response(rules, buf, kinds::COPY_BOTH_RESPONSE, Direction::Both)
+    response::<CopyBothResponse>(rules, buf, kinds::COPY_BOTH_RESPONSE)
 }

@@ -1,10 +1,13 @@
 // The extended query messages, as in extendedquery.rs.
 ghost use Rattle.std.specs.Prelude.{◌≡◌};
 ghost use Rattle.protocol.specs.Decode.{decode_as};
+ghost use Rattle.protocol.specs.Each.{Each};
+ghost use Rattle.protocol.specs.Fields.{Slot};
 ghost use Rattle.protocol.specs.Kinds as K;
+ghost use Rattle.protocol.specs.declared.Message.{Message};
 ghost use Rattle.protocol.specs.Told.{decoded};
 ghost use Rattle.envelope.specs.Steps.{decode_made};
-ghost use Rattle.messages.specs.Shared.{aim_fields, aim_message};
+ghost use Rattle.messages.specs.Shared.{aim_fields, close_message, describe_message};
 
 use codec::{Cursor, signed32};
 use envelope::{TYPED_BODY, cut, fieldless, finished, typed};
@@ -39,25 +42,32 @@ pub fn parse_complete(rules: Rules, buf: &[u8]) -> Result<(Message, usize), Unre
     fieldless(rules, buf, kinds::PARSE_COMPLETE, Message::ParseComplete)
 }
 
-// Which of the two kinds whose body is a target byte and a name.
-#[derive(Clone, Copy)]
-enum Act {
-    Close,
-    Describe,
+// The two kinds whose body is a target byte and a name.
+trait Aimed {
+    ghost makes: { Each Slot aim_fields → Message };
+
+    fn message(target_type: u8, name: Span) -> Message
+        ensures { result ≡ makes (target_type, (name, tt)) };
 }
 
-fn aim_message(act: Act, target_type: u8, name: Span) -> Message
-    ensures { result ≡ aim_message act (target_type, (name, tt)) }
-{
-    match act {
-        Act::Close => Message::Close(Close { target_type, name }),
-        Act::Describe => Message::Describe(Describe { target_type, name }),
+impl Aimed for Close {
+    ghost makes = { close_message };
+
+    fn message(target_type: u8, name: Span) -> Message {
+        Message::Close(Close { target_type, name })
     }
 }
 
-// The body of Close and Describe.
-fn aim(rules: Rules, buf: &[u8], line: Line, act: Act) -> Result<(Message, usize), Unread>
-    ensures { decoded result ≡ decode_made rules K.typed line aim_fields (aim_message act) buf.now }
+impl Aimed for Describe {
+    ghost makes = { describe_message };
+
+    fn message(target_type: u8, name: Span) -> Message {
+        Message::Describe(Describe { target_type, name })
+    }
+}
+
+fn aim<A: Aimed>(rules: Rules, buf: &[u8], line: Line) -> Result<(Message, usize), Unread>
+    ensures { decoded result ≡ decode_made rules K.typed line aim_fields A.makes buf.now }
 {
     let frame = typed(buf, line)?;
     let c = Cursor { at: TYPED_BODY };
@@ -70,13 +80,13 @@ fn aim(rules: Rules, buf: &[u8], line: Line, act: Act) -> Result<(Message, usize
     let Some((name, c)) = c.text(rules, frame) else {
         return Err(cut(c));
     };
-    finished(frame, c, aim_message(act, target_type, name))
+    finished(frame, c, A::message(target_type, name))
 }
 
 pub fn close(rules: Rules, buf: &[u8]) -> Result<(Message, usize), Unread>
     ensures { decoded result ≡ decode_as rules K.typed K.close buf.now }
 {
-    aim(rules, buf, kinds::CLOSE, Act::Close)
+    aim::<Close>(rules, buf, kinds::CLOSE)
 }
 
 pub fn close_complete(rules: Rules, buf: &[u8]) -> Result<(Message, usize), Unread>
@@ -118,7 +128,7 @@ pub fn bind_complete(rules: Rules, buf: &[u8]) -> Result<(Message, usize), Unrea
 pub fn describe(rules: Rules, buf: &[u8]) -> Result<(Message, usize), Unread>
     ensures { decoded result ≡ decode_as rules K.typed K.describe buf.now }
 {
-    aim(rules, buf, kinds::DESCRIBE, Act::Describe)
+    aim::<Describe>(rules, buf, kinds::DESCRIBE)
 }
 
 pub fn execute(rules: Rules, buf: &[u8]) -> Result<(Message, usize), Unread>

@@ -6,4 +6,4 @@ use Rattle.messages.proofs.copy.copy_both_response.Goals as goal
 
 pub returns : goal.returns
 unfolding copy_in_response copy_out_response copy_both_response
-returns c = c.copy_response.ensures ∙ made_as _ typed copy_both_response _
+returns c = c.response.ensures ∙ made_as _ typed copy_both_response _
