@@ -40,7 +40,7 @@ use Rattle.codec.specs.declared.Cursor.{Cursor}
 use Rattle.envelope.specs.Header as H
 use Rattle.envelope.specs.Header.{Header}
 use Rattle.envelope.specs.Steps.{headed, unread}
-use Rattle.items.specs.ItemRead.{error_read, field_read, pair_read}
+use Rattle.items.specs.ItemRead.{element_read, error_read, field_read, pair_read}
 use Rattle.listing.specs.Listing.{step_of, step_told, end_told, opening_told}
 use Rattle.listing.specs.Opening as O
 use Rattle.listing.specs.Opening.{Opening}
@@ -181,6 +181,10 @@ pair_again : (r : Result ((Span × Span) × Cursor) Refused) → read_back {X = 
 pair_again (Ok ((name, value), c)) = refl
 pair_again (Err r) = ap Err (refused_again r)
 
+element_again : (r : Result (Element × Cursor) Refused) → read_back (λ e. e) (element_read r) ≡ r
+element_again (Ok (e, c)) = refl
+element_again (Err r) = ap Err (refused_again r)
+
 -- why there is no frame, and where a header says that it ends
 abbrev unread_back : Header → Unread
 unread_back (H.Frame n) = U.NeedMore
@@ -260,6 +264,7 @@ items_tell = record {
   field = told_back field_read (read_back (λ d. d)) field_again;
   error_field = told_back error_read (read_back (λ s. (s.0, s.1.0))) error_again;
   pair = told_back pair_read (read_back (λ s. (s.0, s.1.0))) pair_again;
+  element = told_back element_read (read_back (λ e. e)) element_again;
 }
 
 pub listing_tells : ListingTells

@@ -20,7 +20,7 @@ use Rattle.envelope.specs.Steps.{headed, unread, Framed}
 use Rattle.host.specs.Asked.{Asked, Answers}
 use Rattle.host_parts.specs.Built.{Renews}
 use Rattle.host_parts.specs.Reads.{LaysRow}
-use Rattle.items.specs.ItemRead.{field_read, error_read, pair_read}
+use Rattle.items.specs.ItemRead.{field_read, error_read, pair_read, element_read}
 use Rattle.listing.specs.Listing.{Lines, Fills, step_of, step_told, end_told, opening_told}
 use Rattle.listing.specs.declared.End.{End}
 use Rattle.listing.specs.declared.Filled.{Filled}
@@ -77,11 +77,12 @@ pub record StepsTell : Type 1 where
 abbrev pub HeadersTell : Type 0
 HeadersTell = Tells headed
 
--- a row's field, an error's and a start-up argument
+-- a row's field, an error's and a start-up argument, and an item of any sort as an element
 pub record ItemsTell : Type 0 where
   pub field : Tells field_read
   pub error_field : Tells error_read
   pub pair : Tells pair_read
+  pub element : Tells element_read
 
 -- a step of the listing, how its stream ends, and how an input opens
 pub record ListingTells : Type 0 where
