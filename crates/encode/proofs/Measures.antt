@@ -1,6 +1,6 @@
 -- For each kind: its limit, when its arguments can be written, and how many bytes their body then has.
 use Prim.Native.Nat.{ℕ, ◌+◌, ◌*◌, ◌<◌}
-use mathlib.Core.Bool.{true, ◌&&◌, and-true}
+use mathlib.Core.Bool.{true, ◌&&◌, and-true, and_assoc}
 use mathlib.Core.List.{List}
 use mathlib.Core.Option.{some}
 use mathlib.Core.Path.{refl}
@@ -24,11 +24,11 @@ use Rattle.writers.proofs.ValueLaws.{able-values, length-values}
 use Rattle.encode.specs.Given as goal
 
 pub parse : (name query oids : List ℕ)
-    → Measured K.frontend K.parse (goal.parse name query oids) K.large (no_zero name && (no_zero query && leb (length oids) (most unsigned_count))) (length name + length query + 4 * length oids + 4)
+    → Measured K.frontend K.parse (goal.parse name query oids) K.large ((no_zero name && no_zero query) && leb (length oids) (most unsigned_count)) (length name + length query + 4 * length oids + 4)
 unfolding K.frontend K.parse goal.parse able_each body_bytes bytes_of_each
 parse name query oids =
     measured K.frontend K.parse (name, (query, (items oids, tt))) refl refl
-    (simp (able_text, able-oids, and-true) refl)
+    (simp (able_text, able-oids, and-true, and_assoc) refl)
     (simp (length-append, length_text, length-oids) (omega arith))
 
 pub aimed : (tag target : ℕ) (name : List ℕ) → Measured K.frontend (goal.aimed tag) (goal.aim_of tag target name) K.small (is_one_of target K.targets && no_zero name) (length name + 2)
@@ -113,13 +113,14 @@ texted tag s =
 
 pub bind : (portal statement : List ℕ) (formats lengths : List ℤ) (joined : List ℕ) (results : List ℤ)
     → Measured K.frontend K.bind (goal.bind portal statement formats lengths joined results) K.large
-    (is_some (values_given lengths joined) && (no_zero portal && (no_zero statement && (leb (length formats) (most unsigned_count) && (leb (length lengths) (most unsigned_count) && leb (length results) (most unsigned_count))))))
+    (((is_some (values_given lengths joined) && no_zero portal) && no_zero statement) && ((leb (length formats) (most unsigned_count) && leb (length lengths) (most unsigned_count)) && leb (length results) (most unsigned_count)))
     (length portal + length statement + 2 * length formats + 4 * length lengths + length joined + 2 * length results + 8)
 unfolding K.frontend K.bind goal.bind able_each body_bytes bytes_of_each
 bind portal statement formats lengths joined results =
-    measured_given K.bind (λ vs. (portal, (statement, (items formats, (vs, (items results, tt)))))) K.frontend (values_given lengths joined) refl refl
+    simp and_assoc
+    (measured_given K.bind (λ vs. (portal, (statement, (items formats, (vs, (items results, tt)))))) K.frontend (values_given lengths joined) refl refl
     (λ vs is. rw (able-values _ _ lengths joined vs is) (simp (able_text, able-formats, and-true) refl))
-    (λ vs is. simp (length-append, length_text, length-formats) (omega (arith, length-values unsigned_count lengths joined vs is)))
+    (λ vs is. simp (length-append, length_text, length-formats) (omega (arith, length-values unsigned_count lengths joined vs is))))
 
 pub data_row : (lengths : List ℤ) (joined : List ℕ)
     → Measured K.backend K.data_row (goal.data_row lengths joined) K.large (is_some (values_given lengths joined) && leb (length lengths) (most signed_count)) (length joined + 4 * length lengths + 2)
@@ -131,18 +132,19 @@ data_row lengths joined =
 
 -- codes are bytes
 pub reported : (tag : ℕ) (codes lengths joined : List ℕ) → ((i : ℕ) → get_or codes i 0 < 256)
-    → Measured K.backend (goal.reported tag) (goal.report_of tag codes lengths joined) K.large (is_some (error_fields_given codes lengths joined) && (no_zero joined && no_zero codes)) (2 * length codes + length joined + 1)
+    → Measured K.backend (goal.reported tag) (goal.report_of tag codes lengths joined) K.large ((is_some (error_fields_given codes lengths joined) && no_zero joined) && no_zero codes) (2 * length codes + length joined + 1)
 unfolding K.backend able_each body_bytes bytes_of_each
 reported tag codes lengths joined small =
-    measured_given (goal.reported tag) (λ fs. (fs, tt)) K.backend (error_fields_given codes lengths joined) refl refl
+    rw and_assoc
+    (measured_given (goal.reported tag) (λ fs. (fs, tt)) K.backend (error_fields_given codes lengths joined) refl refl
     (λ fs is. rw (able_errors codes lengths joined fs small is _) (and-true (no_zero joined && no_zero codes)))
-    (λ fs is. simp length-append (omega (arith, length_errors codes lengths joined fs small is)))
+    (λ fs is. simp length-append (omega (arith, length_errors codes lengths joined fs small is))))
 
 pub startup : (lengths joined : List ℕ)
-    → MeasuredIn K.untyped K.first_packet K.startup (goal.startup lengths joined) K.small (is_some (texts_given lengths joined) && (no_zero joined && named lengths)) (length lengths + length joined + 1)
+    → MeasuredIn K.untyped K.first_packet K.startup (goal.startup lengths joined) K.small ((is_some (texts_given lengths joined) && no_zero joined) && named lengths) (length lengths + length joined + 1)
 unfolding K.first_packet K.startup goal.startup able_each body_bytes bytes_of_each
 startup lengths joined =
-    rw (some_pairs lengths joined (no_zero joined))
+    rw (and_assoc, some_pairs lengths joined (no_zero joined))
     (measured_given K.startup (λ ps. (ps, tt)) K.first_packet (pairs_given lengths joined) refl refl
     (λ ps is. rw (able-pairs lengths joined ps is _) (and-true (no_zero joined && named lengths)))
     (λ ps is. simp length-append (omega (arith, length_pairs lengths joined ps is))))

@@ -108,3 +108,12 @@ module _ (fs : List FieldDescription) (run : List ℕ) where
         let v : r ≡ answered (all_pass fs run measuring_pass) (length fs) (length out) = answer ∙ (λ j. answered (measured j) (length fs) (length (same j))) in
         let e : l ≡ all_out fs run (begun r (length fs) out) (writing_pass r) = rest ∙ (λ j. all_out fs run (head j) (second j)) ∙ ap (λ (x : List ℕ). all_out fs run (begun r (length fs) x) (writing_pass r)) same in
         rw e (encoded r small v)
+
+    -- where the answer is a refusal, there is no second pass
+    pub kept : {c : Pass} {number place : ℕ} {a b : List ℕ} → length out < largest
+        → c ≡ all_pass fs run measuring_pass → a ≡ all_out fs run out measuring_pass
+        → N.Refused number place ≡ answered c (length fs) (length a) → b ≡ begun (N.Refused number place) (length fs) a
+        → Encodes K.backend K.row_description (goal.row_description fs run) out (N.Refused number place) b
+    unfolding writing_pass
+    kept {number = number} {place = place} {b = b} small measured same answer head =
+        joined small measured same answer head refl (sym (nothing_written fs run b (writing_pass (N.Refused number place)) refl))

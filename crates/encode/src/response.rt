@@ -1,18 +1,16 @@
 // The general responses, as in response.rs.
-ghost use Rattle.std.specs.Prelude.{◌+◌, ◌*◌, ◌≤◌, true, ◌≡◌, ℤ, length};
+ghost use Rattle.std.specs.Prelude.{◌+◌, ◌*◌, ◌≤◌, true, ◌≡◌, length};
 ghost use Rattle.std.proofs.Math.Option.{some};
-ghost use Rattle.protocol.specs.Bytes.{bits_of};
 ghost use Rattle.protocol.specs.Encode.{Encodes, error_fields_given, gss_kind, ssl_kind};
 ghost use Rattle.protocol.specs.Kinds as K;
+ghost use Rattle.protocol.specs.Told.{encoded};
 ghost use Rattle.writers.specs.Given.{is_some};
-ghost use Rattle.writers.specs.Writing.{WroteFrame};
 ghost use Rattle.encode.specs.Given as G;
 ghost use Rattle.encode.specs.Writing.{WroteGiven};
 
 use crate::{bare, one_text};
-use protocol::Encoded;
 use protocol::kinds::{LARGE, SMALL};
-use protocol::refusal::OUTPUT_TOO_SHORT;
+use protocol::refusal::{Refusal, Refused};
 use protocol::response::{
     GssEncResponse, MESSAGE_TYPE_BYTE_COMMAND_COMPLETE, MESSAGE_TYPE_BYTE_EMPTY_QUERY_RESPONSE,
     MESSAGE_TYPE_BYTE_ERROR_RESPONSE, MESSAGE_TYPE_BYTE_NOTICE_RESPONSE,
@@ -22,36 +20,26 @@ use protocol::response::{
 use writers::errors::errors_given;
 use writers::{bits32, no_zero, plus4, put_byte, put_head, put_text, put_word, verdict};
 
-pub fn command_complete(tag: &[u8], out: &mut [u8]) -> Encoded
-    ensures { Encodes K.backend K.command_complete (G.command_complete tag.now) out.old result out.new }
+pub fn command_complete(tag: &[u8], out: &mut [u8]) -> Result<usize, Refused>
+    ensures { Encodes K.backend K.command_complete (G.command_complete tag.now) out.old (encoded result) out.new }
 {
     one_text(MESSAGE_TYPE_BYTE_COMMAND_COMPLETE, tag, out)
 }
 
-pub fn empty_query_response(out: &mut [u8]) -> Encoded
-    ensures { Encodes K.backend K.empty_query_response G.empty_query_response out.old result out.new }
+pub fn empty_query_response(out: &mut [u8]) -> Result<usize, Refused>
+    ensures { Encodes K.backend K.empty_query_response G.empty_query_response out.old (encoded result) out.new }
 {
     bare(MESSAGE_TYPE_BYTE_EMPTY_QUERY_RESPONSE, out)
 }
 
-fn write_ready_for_query(status: u8, out: &mut [u8])
-    requires { 6 ≤ length out.old }
-    ensures { WroteFrame K.typed K.ready_for_query (G.ready_for_query status) out.old out.new }
-{
-    let at = put_head(out, MESSAGE_TYPE_BYTE_READY_FOR_QUERY, 6);
-    put_byte(out, at, status);
-}
-
-pub fn ready_for_query(status: u8, out: &mut [u8]) -> Encoded
-    ensures { Encodes K.backend K.ready_for_query (G.ready_for_query status) out.old result out.new }
+pub fn ready_for_query(status: u8, out: &mut [u8]) -> Result<usize, Refused>
+    ensures { Encodes K.backend K.ready_for_query (G.ready_for_query status) out.old (encoded result) out.new }
 {
     let able = is_status(status);
-    let r = verdict(able, SMALL, 5, out.len());
-    let Encoded::Done(n) = r else {
-        return r;
-    };
-    write_ready_for_query(status, out);
-    r
+    let n = verdict(able, SMALL, 5, out.len())?;
+    let at = put_head(out, MESSAGE_TYPE_BYTE_READY_FOR_QUERY, n);
+    put_byte(out, at, status);
+    Ok(n)
 }
 
 // The code of each and its string; then the zero byte that ends them.
@@ -60,49 +48,41 @@ fn put_errors(out: &mut [u8], at: usize, codes: &[u8], lengths: &[u32], joined: 
     ensures { WroteGiven K.error_fields (error_fields_given codes.now lengths.now joined.now) out.old at (2 * length codes.now + length joined.now + 1) out.new result }
 {
     let mut p = at;
-    let mut i = 0;
-    let mut j = 0;
-    while i < lengths.len() {
-        let e = j + lengths[i] as usize;
+    let mut rest = joined;
+    for (i, len) in lengths.iter().enumerate() {
+        let (text, others) = rest.split_at(*len as usize);
         p = put_byte(out, p, codes[i]);
-        p = put_text(out, p, &joined[j..e]);
-        j = e;
-        i += 1;
+        p = put_text(out, p, text);
+        rest = others;
     }
     put_byte(out, p, 0)
 }
 
-fn write_report(
+// An error or a notice.
+fn report(
     type_byte: u8,
     codes: &[u8],
     lengths: &[u32],
     joined: &[u8],
-    n: usize,
     out: &mut [u8],
-)
-    requires { (n ≡ 2 * length codes.now + length joined.now + 6) × (n ≤ length out.old) × (n ≤ K.large_frame) × (is_some (error_fields_given codes.now lengths.now joined.now) ≡ true) }
-    ensures { WroteFrame K.typed (G.reported type_byte) (G.report_of type_byte codes.now lengths.now joined.now) out.old out.new }
+) -> Result<usize, Refused>
+    ensures { Encodes K.backend (G.reported type_byte) (G.report_of type_byte codes.now lengths.now joined.now) out.old (encoded result) out.new }
 {
+    let able = errors_given(codes, lengths, joined) & no_zero(joined) & no_zero(codes);
+    let size = plus4(codes.len(), codes.len(), joined.len(), 5);
+    let n = verdict(able, LARGE, size, out.len())?;
     let at = put_head(out, type_byte, n);
     put_errors(out, at, codes, lengths, joined);
+    Ok(n)
 }
 
-// An error or a notice.
-fn report(type_byte: u8, codes: &[u8], lengths: &[u32], joined: &[u8], out: &mut [u8]) -> Encoded
-    ensures { Encodes K.backend (G.reported type_byte) (G.report_of type_byte codes.now lengths.now joined.now) out.old result out.new }
-{
-    let able = errors_given(codes, lengths, joined) & (no_zero(joined) & no_zero(codes));
-    let size = plus4(codes.len(), codes.len(), joined.len(), 5);
-    let r = verdict(able, LARGE, size, out.len());
-    let Encoded::Done(n) = r else {
-        return r;
-    };
-    write_report(type_byte, codes, lengths, joined, n, out);
-    r
-}
-
-pub fn error_response(codes: &[u8], lengths: &[u32], joined: &[u8], out: &mut [u8]) -> Encoded
-    ensures { Encodes K.backend K.error_response (G.error_response codes.now lengths.now joined.now) out.old result out.new }
+pub fn error_response(
+    codes: &[u8],
+    lengths: &[u32],
+    joined: &[u8],
+    out: &mut [u8],
+) -> Result<usize, Refused>
+    ensures { Encodes K.backend K.error_response (G.error_response codes.now lengths.now joined.now) out.old (encoded result) out.new }
 {
     report(
         MESSAGE_TYPE_BYTE_ERROR_RESPONSE,
@@ -113,8 +93,13 @@ pub fn error_response(codes: &[u8], lengths: &[u32], joined: &[u8], out: &mut [u
     )
 }
 
-pub fn notice_response(codes: &[u8], lengths: &[u32], joined: &[u8], out: &mut [u8]) -> Encoded
-    ensures { Encodes K.backend K.notice_response (G.notice_response codes.now lengths.now joined.now) out.old result out.new }
+pub fn notice_response(
+    codes: &[u8],
+    lengths: &[u32],
+    joined: &[u8],
+    out: &mut [u8],
+) -> Result<usize, Refused>
+    ensures { Encodes K.backend K.notice_response (G.notice_response codes.now lengths.now joined.now) out.old (encoded result) out.new }
 {
     report(
         MESSAGE_TYPE_BYTE_NOTICE_RESPONSE,
@@ -125,44 +110,37 @@ pub fn notice_response(codes: &[u8], lengths: &[u32], joined: &[u8], out: &mut [
     )
 }
 
-// pid is the bits of the process number.
-fn write_notification_response(pid: u32, channel: &[u8], payload: &[u8], n: usize, out: &mut [u8])
-    requires { (n ≡ length channel.now + length payload.now + 11) × (n ≤ length out.old) × (n ≤ K.large_frame) }
-    ensures { (z : ℤ) → pid ≡ bits_of 4 z → WroteFrame K.typed K.notification_response (G.notification_response z channel.now payload.now) out.old out.new }
+pub fn notification_response(
+    pid: i32,
+    channel: &[u8],
+    payload: &[u8],
+    out: &mut [u8],
+) -> Result<usize, Refused>
+    ensures { Encodes K.backend K.notification_response (G.notification_response pid channel.now payload.now) out.old (encoded result) out.new }
 {
-    let at = put_head(out, MESSAGE_TYPE_BYTE_NOTIFICATION_RESPONSE, n);
-    let at = put_word(out, at, pid);
-    let at = put_text(out, at, channel);
-    put_text(out, at, payload);
-}
-
-pub fn notification_response(pid: i32, channel: &[u8], payload: &[u8], out: &mut [u8]) -> Encoded
-    ensures { Encodes K.backend K.notification_response (G.notification_response pid channel.now payload.now) out.old result out.new }
-{
-    let bits = bits32(pid);
     let able = no_zero(channel) & no_zero(payload);
     let size = plus4(channel.len(), payload.len(), 4, 6);
-    let r = verdict(able, LARGE, size, out.len());
-    let Encoded::Done(n) = r else {
-        return r;
-    };
-    write_notification_response(bits, channel, payload, n, out);
-    r
+    let n = verdict(able, LARGE, size, out.len())?;
+    let at = put_head(out, MESSAGE_TYPE_BYTE_NOTIFICATION_RESPONSE, n);
+    let at = put_word(out, at, bits32(pid));
+    let at = put_text(out, at, channel);
+    put_text(out, at, payload);
+    Ok(n)
 }
 
 // An answer that is one byte, of TLS or GSS. Only the room can be lacking.
-fn lone(byte: u8, out: &mut [u8]) -> Encoded
-    ensures { Encodes K.tls_answer (G.lone byte) (some tt) out.old result out.new }
+fn lone(byte: u8, out: &mut [u8]) -> Result<usize, Refused>
+    ensures { Encodes K.tls_answer (G.lone byte) (some tt) out.old (encoded result) out.new }
 {
-    if out.len() < 1 {
-        return Encoded::Refused(OUTPUT_TOO_SHORT, 0);
+    if out.is_empty() {
+        return Err(Refusal::OutputTooShort.at(0));
     }
     put_byte(out, 0, byte);
-    Encoded::Done(1)
+    Ok(1)
 }
 
-pub fn ssl_response(response: SslResponse, out: &mut [u8]) -> Encoded
-    ensures { Encodes K.tls_answer (ssl_kind response) (G.ssl_response response) out.old result out.new }
+pub fn ssl_response(response: SslResponse, out: &mut [u8]) -> Result<usize, Refused>
+    ensures { Encodes K.tls_answer (ssl_kind response) (G.ssl_response response) out.old (encoded result) out.new }
 {
     match response {
         SslResponse::Accept => lone(SslResponse::BYTE_ACCEPT, out),
@@ -170,8 +148,8 @@ pub fn ssl_response(response: SslResponse, out: &mut [u8]) -> Encoded
     }
 }
 
-pub fn gss_enc_response(response: GssEncResponse, out: &mut [u8]) -> Encoded
-    ensures { Encodes K.gss_answer (gss_kind response) (G.gss_enc_response response) out.old result out.new }
+pub fn gss_enc_response(response: GssEncResponse, out: &mut [u8]) -> Result<usize, Refused>
+    ensures { Encodes K.gss_answer (gss_kind response) (G.gss_enc_response response) out.old (encoded result) out.new }
 {
     match response {
         GssEncResponse::Accept => lone(GssEncResponse::BYTE_ACCEPT, out),

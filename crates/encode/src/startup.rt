@@ -1,17 +1,15 @@
 // The messages of a connection's start, as in startup.rs.
-ghost use Rattle.std.specs.Prelude.{◌+◌, ◌≤◌, true, ◌≡◌, ℤ, length};
+ghost use Rattle.std.specs.Prelude.{◌+◌, ◌≤◌, true, ◌≡◌, length};
 ghost use Rattle.std.proofs.Math.Option.{some};
-ghost use Rattle.protocol.specs.Bytes.{bits_of};
 ghost use Rattle.protocol.specs.Encode.{Encodes, pairs_given, texts_given};
 ghost use Rattle.protocol.specs.Kinds as K;
+ghost use Rattle.protocol.specs.Told.{encoded};
 ghost use Rattle.writers.specs.Given.{is_some};
-ghost use Rattle.writers.specs.Writing.{WroteFrame};
 ghost use Rattle.encode.specs.Given as G;
 ghost use Rattle.encode.specs.Writing.{WroteGiven};
 
-use protocol::Encoded;
 use protocol::kinds::SMALL;
-use protocol::refusal::OUTPUT_TOO_SHORT;
+use protocol::refusal::{Refusal, Refused};
 use protocol::startup::{
     GssEncRequest, MESSAGE_TYPE_BYTE_BACKEND_KEY_DATA, MESSAGE_TYPE_BYTE_PARAMETER_STATUS,
     SslRequest, Startup,
@@ -27,105 +25,70 @@ fn put_parameters(out: &mut [u8], at: usize, lengths: &[u32], joined: &[u8]) -> 
     ensures { WroteGiven K.pairs (pairs_given lengths.now joined.now) out.old at (length lengths.now + length joined.now + 1) out.new result }
 {
     let mut p = at;
-    let mut i = 0;
-    let mut j = 0;
-    while i < lengths.len() {
-        let e = j + lengths[i] as usize;
-        p = put_text(out, p, &joined[j..e]);
-        j = e;
-        i += 1;
+    let mut rest = joined;
+    for len in lengths {
+        let (text, others) = rest.split_at(*len as usize);
+        p = put_text(out, p, text);
+        rest = others;
     }
     put_byte(out, p, 0)
 }
 
-fn write_startup(lengths: &[u32], joined: &[u8], n: usize, out: &mut [u8])
-    requires { (n ≡ length lengths.now + length joined.now + 9) × (n ≤ length out.old) × (n ≤ K.small) × (is_some (texts_given lengths.now joined.now) ≡ true) }
-    ensures { WroteFrame K.untyped K.startup (G.startup lengths.now joined.now) out.old out.new }
+// Names and values come by turns, as lengths and their joined bytes.
+pub fn startup(lengths: &[u32], joined: &[u8], out: &mut [u8]) -> Result<usize, Refused>
+    ensures { Encodes K.first_packet K.startup (G.startup lengths.now joined.now) out.old (encoded result) out.new }
 {
+    let able = texts_given(lengths, joined) & no_zero(joined) & named(lengths);
+    let size = plus(joined.len(), lengths.len() + 9);
+    let n = verdict_untyped(able, SMALL, size, out.len())?;
     let at = put_word(out, 0, n as u32);
     let at = put_word(out, at, Startup::PROTOCOL_VERSION_3_0);
     put_parameters(out, at, lengths, joined);
-}
-
-// Names and values come by turns, as lengths and their joined bytes.
-pub fn startup(lengths: &[u32], joined: &[u8], out: &mut [u8]) -> Encoded
-    ensures { Encodes K.first_packet K.startup (G.startup lengths.now joined.now) out.old result out.new }
-{
-    let able = texts_given(lengths, joined) & (no_zero(joined) & named(lengths));
-    let size = plus(joined.len(), lengths.len() + 9);
-    let r = verdict_untyped(able, SMALL, size, out.len());
-    let Encoded::Done(n) = r else {
-        return r;
-    };
-    write_startup(lengths, joined, n, out);
-    r
+    Ok(n)
 }
 
 // A request for TLS or GSS encryption: a length and a code. Only the room can be lacking.
-fn request(code: u32, out: &mut [u8]) -> Encoded
-    ensures { Encodes K.first_packet (G.requested code) (some tt) out.old result out.new }
+fn request(code: u32, out: &mut [u8]) -> Result<usize, Refused>
+    ensures { Encodes K.first_packet (G.requested code) (some tt) out.old (encoded result) out.new }
 {
     if out.len() < 8 {
-        return Encoded::Refused(OUTPUT_TOO_SHORT, 0);
+        return Err(Refusal::OutputTooShort.at(0));
     }
     let at = put_word(out, 0, 8);
     put_word(out, at, code);
-    Encoded::Done(8)
+    Ok(8)
 }
 
-pub fn ssl_request(out: &mut [u8]) -> Encoded
-    ensures { Encodes K.first_packet K.ssl_request G.ssl_request out.old result out.new }
+pub fn ssl_request(out: &mut [u8]) -> Result<usize, Refused>
+    ensures { Encodes K.first_packet K.ssl_request G.ssl_request out.old (encoded result) out.new }
 {
     request(SslRequest::BODY_MAGIC_NUMBER, out)
 }
 
-pub fn gss_enc_request(out: &mut [u8]) -> Encoded
-    ensures { Encodes K.first_packet K.gss_enc_request G.gss_enc_request out.old result out.new }
+pub fn gss_enc_request(out: &mut [u8]) -> Result<usize, Refused>
+    ensures { Encodes K.first_packet K.gss_enc_request G.gss_enc_request out.old (encoded result) out.new }
 {
     request(GssEncRequest::BODY_MAGIC_NUMBER, out)
 }
 
-fn write_parameter_status(name: &[u8], value: &[u8], n: usize, out: &mut [u8])
-    requires { (n ≡ length name.now + length value.now + 7) × (n ≤ length out.old) × (n ≤ K.small_frame) }
-    ensures { WroteFrame K.typed K.parameter_status (G.parameter_status name.now value.now) out.old out.new }
-{
-    let at = put_head(out, MESSAGE_TYPE_BYTE_PARAMETER_STATUS, n);
-    let at = put_text(out, at, name);
-    put_text(out, at, value);
-}
-
-pub fn parameter_status(name: &[u8], value: &[u8], out: &mut [u8]) -> Encoded
-    ensures { Encodes K.backend K.parameter_status (G.parameter_status name.now value.now) out.old result out.new }
+pub fn parameter_status(name: &[u8], value: &[u8], out: &mut [u8]) -> Result<usize, Refused>
+    ensures { Encodes K.backend K.parameter_status (G.parameter_status name.now value.now) out.old (encoded result) out.new }
 {
     let able = no_zero(name) & no_zero(value);
     let size = plus4(name.len(), value.len(), 2, 4);
-    let r = verdict(able, SMALL, size, out.len());
-    let Encoded::Done(n) = r else {
-        return r;
-    };
-    write_parameter_status(name, value, n, out);
-    r
+    let n = verdict(able, SMALL, size, out.len())?;
+    let at = put_head(out, MESSAGE_TYPE_BYTE_PARAMETER_STATUS, n);
+    let at = put_text(out, at, name);
+    put_text(out, at, value);
+    Ok(n)
 }
 
-// pid and key are the bits of the two numbers.
-fn write_backend_key_data(pid: u32, key: u32, out: &mut [u8])
-    requires { 13 ≤ length out.old }
-    ensures { (y z : ℤ) → pid ≡ bits_of 4 y → key ≡ bits_of 4 z → WroteFrame K.typed K.backend_key_data (G.backend_key_data y z) out.old out.new }
+pub fn backend_key_data(pid: i32, secret_key: i32, out: &mut [u8]) -> Result<usize, Refused>
+    ensures { Encodes K.backend K.backend_key_data (G.backend_key_data pid secret_key) out.old (encoded result) out.new }
 {
-    let at = put_head(out, MESSAGE_TYPE_BYTE_BACKEND_KEY_DATA, 13);
-    let at = put_word(out, at, pid);
-    put_word(out, at, key);
-}
-
-pub fn backend_key_data(pid: i32, secret_key: i32, out: &mut [u8]) -> Encoded
-    ensures { Encodes K.backend K.backend_key_data (G.backend_key_data pid secret_key) out.old result out.new }
-{
-    let bits = bits32(pid);
-    let key = bits32(secret_key);
-    let r = verdict(true, SMALL, 12, out.len());
-    let Encoded::Done(n) = r else {
-        return r;
-    };
-    write_backend_key_data(bits, key, out);
-    r
+    let n = verdict(true, SMALL, 12, out.len())?;
+    let at = put_head(out, MESSAGE_TYPE_BYTE_BACKEND_KEY_DATA, n);
+    let at = put_word(out, at, bits32(pid));
+    put_word(out, at, bits32(secret_key));
+    Ok(n)
 }

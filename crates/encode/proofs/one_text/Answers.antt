@@ -1,26 +1,23 @@
 -- `encode::one_text` meets its contract.
+use mathlib.Core.Path.{refl}
 use native.Mathlib.Omega.{arith}
-use lib.ListN.{length}
-use Rattle.protocol.specs.Kinds as K
-use Rattle.writers.proofs.Encoding.{Judged, judged, room_of, refused, finished}
-use Rattle.encode.specs.Given as G
+use Rattle.std.proofs.lemmas.Result.{err_from_is_err_and}
+use Rattle.protocol.specs.Each.{bytes_of_each}
+use Rattle.protocol.specs.Fields.{bytes, atom_bytes}
+use Rattle.protocol.specs.WellFormed.{body_bytes}
+use Rattle.writers.proofs.Puts.{◌and◌, none}
+use Rattle.encode.proofs.Answered.{denied, wrote}
 use Rattle.encode.proofs.Measures as M
 use Rattle.encode.proofs.one_text.Goals as goal
 
-pub returns-in_default : goal.returns-in_default
-returns-in_default c =
-    let says : let a = c.args in Judged K.frontend (G.texted a.type_byte) (G.text_of a.type_byte a.s.now) (length a.out.now) c.verdict-r.result = judged (M.texted _ _) (omega arith) c.no_zero-able.ensures (λ _. omega (arith, c)) c.verdict-r.ensures in
-    refused says c.in_default.is
-
-pub write_one_text-requires : goal.write_one_text-requires
-write_one_text-requires c =
-    let says : let a = c.args in Judged K.frontend (G.texted a.type_byte) (G.text_of a.type_byte a.s.now) (length a.out.now) c.verdict-r.result = judged (M.texted _ _) (omega arith) c.no_zero-able.ensures (λ _. omega (arith, c)) c.verdict-r.ensures in
-    let a = c.args in
-    let h = room_of (M.texted a.type_byte a.s.now) says c.in-Done.is in
-    (omega (arith, h.whole), h.fits, h.small)
+pub returns-in_err-n : goal.returns-in_err-n
+returns-in_err-n c = let a = c.args in
+    denied (M.texted a.type_byte a.s.now) (omega arith) c.no_zero-able.ensures (λ _. omega (arith, c.plus-size.ensures))
+    (err_from_is_err_and c.from_residual.result c.from_residual.ensures.1) c.in_err-n.ensures
 
 pub returns : goal.returns
-returns c =
-    let says : let a = c.args in Judged K.frontend (G.texted a.type_byte) (G.text_of a.type_byte a.s.now) (length a.out.now) c.verdict-r.result = judged (M.texted _ _) (omega arith) c.no_zero-able.ensures (λ _. omega (arith, c)) c.verdict-r.ensures in
-    let a = c.args in
-    finished (M.texted a.type_byte a.s.now) says c.in-Done.is c.write_one_text.ensures
+unfolding body_bytes bytes_of_each bytes atom_bytes
+returns c = let a = c.args in
+    wrote (M.texted a.type_byte a.s.now) (omega arith) c.no_zero-able.ensures (λ _. omega (arith, c.plus-size.ensures)) c.in_ok-n.ensures c.put_head-at.ensures
+    (λ _. c.put_text.ensures.fits refl and none)
+    (omega arith)

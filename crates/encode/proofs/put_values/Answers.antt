@@ -1,22 +1,24 @@
 -- `encode::put_values` meets its contract.
-use Prim.Native.Nat.{ℕ, ◌+◌, ◌*◌, ◌-◌, ◌≤◌}
-use mathlib.Core.Bool.{true}
+use Prim.Native.Nat.{ℕ, ◌+◌, ◌*◌}
 use mathlib.Core.List.{List}
 use mathlib.Core.Path.{◌≡◌, refl, ap, ◌∙◌, sym}
 use native.Mathlib.Omega.{arith}
 use borrow.Author.Rules.{rules}
-use lib.IntN.{ℤ}
-use lib.ListN.{length, drop, length-take, length-drop}
+use lib.IntN.{ℤ, pos}
+use lib.ListN.{length, get_or, drop}
+use mir.Syntax.{w32}
+use mir.Val.{SFits}
+use mir.ValLaws.{to_z-of_z}
 use Rattle.protocol.specs.Bytes.{be}
 use Rattle.protocol.specs.Encode.{values_given}
 use Rattle.protocol.specs.Fields.{unsigned_count, bytes}
 use Rattle.protocol.specs.Kinds.{values}
-use Rattle.writers.specs.Given.{is_some}
 use Rattle.writers.specs.Writing.{write, Wrote}
-use Rattle.writers.proofs.Laws.{turn, ◌then◌, drop-end}
+use Rattle.writers.proofs.Laws.{turn, ◌then◌}
 use Rattle.writers.proofs.Puts.{same_size}
-use Rattle.writers.proofs.ValueLaws.{value_right, value_over, values_bytes, values_more, values_are}
+use Rattle.writers.proofs.ValueLaws.{values_bytes, values_are}
 use Rattle.encode.specs.Writing.{WroteGiven}
+use Rattle.encode.proofs.Turns.{value_turn, value_end}
 use Rattle.encode.proofs.put_values.Goals as goal
 
 values-field : {d mid out : List ℕ} {p at next : ℕ} (zs : List ℤ) (bs : List ℕ)
@@ -30,37 +32,33 @@ values-field zs bs w e at = record {
   place = omega (arith, w.place);
 }
 
-pub overflow_add-e : goal.overflow_add-e
-overflow_add-e c =
-    let right : let q = c.loop-i in let a = c.args in (c.size_of.result ≤ length a.joined.now - q.j) × (is_some (values_given (drop (q.i + 1) a.lengths.now) (drop (q.j + c.size_of.result) a.joined.now)) ≡ true) = let q = c.loop-i in let a = c.args in value_right a.lengths.now a.joined.now q.i q.j c.loop-i-test.true c.n-1.given c.size_of.ensures q.invariant.4 in
-    omega (arith, right.0)
+pub split_at-requires : goal.split_at-requires
+split_at-requires c = let q = c.loop-len in
+    let fits : SFits w32 (get_or c.args.lengths.now q.len-index (pos 0)) = search rules in
+    let size = rw (to_z-of_z w32 _ fits) at c.size_of.ensures in
+    rw size (value_turn c.args.lengths.now q.rest.now q.len-index c.loop-len-test.true q.invariant.2).fits
 
-pub slice_bounds-put_value-end : goal.slice_bounds-put_value-end
-slice_bounds-put_value-end c =
-    let right : let q = c.loop-i in let a = c.args in (c.size_of.result ≤ length a.joined.now - q.j) × (is_some (values_given (drop (q.i + 1) a.lengths.now) (drop (q.j + c.size_of.result) a.joined.now)) ≡ true) = let q = c.loop-i in let a = c.args in value_right a.lengths.now a.joined.now q.i q.j c.loop-i-test.true c.n-1.given c.size_of.ensures q.invariant.4 in
-    omega (arith, right.0)
-
-pub loop-i-preserved : goal.loop-i-preserved
-loop-i-preserved c =
-    let right : let q = c.loop-i in let a = c.args in (c.size_of.result ≤ length a.joined.now - q.j) × (is_some (values_given (drop (q.i + 1) a.lengths.now) (drop (q.j + c.size_of.result) a.joined.now)) ≡ true) = let q = c.loop-i in let a = c.args in value_right a.lengths.now a.joined.now q.i q.j c.loop-i-test.true c.n-1.given c.size_of.ensures q.invariant.4 in
-    let q = c.loop-i in
-    let a = c.args in
-    let r = right in
+pub loop-len-preserved : goal.loop-len-preserved
+loop-len-preserved c = let q = c.loop-len in
+    let zs = c.args.lengths.now in
+    let fits : SFits w32 (get_or zs q.len-index (pos 0)) = search rules in
+    let size = rw (to_z-of_z w32 _ fits) at c.size_of.ensures in
+    let bits = rw (to_z-of_z w32 _ fits) at c.bits32.ensures in
+    let t = value_turn zs q.rest.now q.len-index c.loop-len-test.true q.invariant.2 in
+    let cut = c.split_at.ensures in
+    let step = rw (← bits, ← size, ← cut.front, ← cut.back) at t.bytes in
     let h = c.put_half-p.ensures.fits refl (omega (arith, c.requires.0)) in
-    let t = c.put_value-p.ensures.fits refl (simp (length-take, length-drop) (omega (arith, r.0, h.place, same_size h))) in
-    let p = simp (length-take, length-drop) at t.place in
-    let v = values_more a.lengths.now a.joined.now q.i q.j c.loop-i-test.true c.n-1.given c.bits32.ensures c.size_of.ensures in (
-      search rules,
-      omega (arith, r.0),
-      omega (arith, r.0, p),
+    let s = c.put_value-p.ensures.fits refl (omega (arith, cut, h.place, same_size h)) in (
+      omega (arith, cut, s.place),
       omega arith,
-      r.1,
-      turn (values_bytes (drop (q.i + 1) a.lengths.now) (drop (q.j + c.size_of.result) a.joined.now)) t (ap (write q.out q.p) (sym v) ∙ q.invariant.5),
+      rw (cut.back, size) t.more,
+      turn (values_bytes (drop (q.len-index + 1) zs) c.split_at.result.1.now) s (ap (write q.out q.p) (sym step) ∙ q.invariant.3),
     )
 
 pub returns : goal.returns
 unfolding values_bytes
-returns c = let q = c.loop-i in
-    let a = c.args in
-    let j = value_over a.lengths.now a.joined.now q.i q.j c.loop-i-test.false q.invariant.1 q.invariant.4 in
-    values-field a.lengths.now a.joined.now (c.put_half-p.ensures.fits refl (omega arith)) (rw (drop-end a.lengths.now q.i c.loop-i-test.false) at q.invariant.5) (omega (arith, j))
+returns c = let q = c.loop-len in
+    let zs = c.args.lengths.now in
+    let all = value_end zs q.rest.now q.len-index c.loop-len-test.false q.invariant.2 in
+    let none : length q.rest.now ≡ 0 = ap length all.0 in
+    values-field zs c.args.joined.now (c.put_half-p.ensures.fits refl (omega arith)) (rw all.1 at q.invariant.3) (omega (arith, none))

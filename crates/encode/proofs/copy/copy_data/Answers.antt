@@ -1,41 +1,36 @@
 -- `encode::copy::copy_data` meets its contract.
 use Prim.Native.Nat.{ℕ}
 use mathlib.Core.List.{List}
+use Rattle.protocol.specs.Encoded.{Encoded}
+use Rattle.protocol.specs.Encode.{Encodes}
 use mathlib.Core.Path.{refl}
 use native.Mathlib.Omega.{arith}
-use lib.ListN.{length}
-use Rattle.protocol.specs.Encoded.{Encoded}
-use Rattle.protocol.specs.Each.{able_each}
-use Rattle.protocol.specs.Encode.{Encodes}
-use Rattle.protocol.specs.Fields.{able, atom_able}
+use Rattle.std.proofs.lemmas.Result.{err_from_is_err_and}
+use Rattle.protocol.specs.Each.{able_each, bytes_of_each}
+use Rattle.protocol.specs.Fields.{able, bytes, atom_able, atom_bytes}
 use Rattle.protocol.specs.Kinds as K
-use Rattle.writers.proofs.Encoding.{Judged, judged, room_of, refused, finished}
+use Rattle.protocol.specs.WellFormed.{body_bytes}
+use Rattle.writers.proofs.Puts.{◌and◌, none}
 use Rattle.encode.specs.Given as G
+use Rattle.encode.proofs.Answered.{denied, wrote}
 use Rattle.encode.proofs.Measures as M
 use Rattle.encode.proofs.Shapes.{as_kind}
 use Rattle.encode.proofs.copy.copy_data.Goals as goal
 
+-- of one mode's frames and of the other's
 both : (bytes : List ℕ) {out left : List ℕ} {r : Encoded} → Encodes K.frontend K.copy_data (G.copy_data bytes) out r left
-    → Encodes K.frontend K.copy_data (G.copy_data bytes) out r left × Encodes K.backend K.copy_data (G.copy_data bytes) out r left
+    → (record { from_frontend : Encodes K.frontend K.copy_data (G.copy_data bytes) out r left; from_backend : Encodes K.backend K.copy_data (G.copy_data bytes) out r left })
 unfolding K.frontend K.backend K.copy_data G.copy_data able_each able atom_able
-both bytes e = (e, as_kind e K.backend (K.copy_data).message refl refl)
+both bytes e = record { from_frontend = e; from_backend = as_kind e K.backend (K.copy_data).message refl refl }
 
-pub returns-in_default : goal.returns-in_default
-returns-in_default c =
-    let says : let a = c.args in Judged K.frontend K.copy_data (G.copy_data a.data.now) (length a.out.now) c.verdict-r.result = judged (M.copy_data _) (omega arith) refl (λ _. omega (arith, c)) c.verdict-r.ensures in
-    let b = both c.args.data.now (refused says c.in_default.is) in
-    record { from_frontend = b.0; from_backend = b.1 }
-
-pub write_copy_data-requires : goal.write_copy_data-requires
-write_copy_data-requires c =
-    let says : let a = c.args in Judged K.frontend K.copy_data (G.copy_data a.data.now) (length a.out.now) c.verdict-r.result = judged (M.copy_data _) (omega arith) refl (λ _. omega (arith, c)) c.verdict-r.ensures in
-    let a = c.args in
-    let h = room_of (M.copy_data a.data.now) says c.in-Done.is in
-    (omega (arith, h.whole), h.fits, h.small)
+pub returns-in_err-n : goal.returns-in_err-n
+returns-in_err-n c = let a = c.args in
+    both a.data.now (denied (M.copy_data a.data.now) (omega arith) refl (λ _. omega (arith, c.plus-size.ensures))
+    (err_from_is_err_and c.from_residual.result c.from_residual.ensures.1) c.in_err-n.ensures)
 
 pub returns : goal.returns
-returns c =
-    let says : let a = c.args in Judged K.frontend K.copy_data (G.copy_data a.data.now) (length a.out.now) c.verdict-r.result = judged (M.copy_data _) (omega arith) refl (λ _. omega (arith, c)) c.verdict-r.ensures in
-    let a = c.args in
-    let b = both a.data.now (finished (M.copy_data a.data.now) says c.in-Done.is c.write_copy_data.ensures) in
-    record { from_frontend = b.0; from_backend = b.1 }
+unfolding K.copy_data G.copy_data body_bytes bytes_of_each bytes atom_bytes
+returns c = let a = c.args in
+    both a.data.now (wrote (M.copy_data a.data.now) (omega arith) refl (λ _. omega (arith, c.plus-size.ensures)) c.in_ok-n.ensures c.put_head-at.ensures
+    (λ _. c.put_bytes.ensures.fits refl and none)
+    (omega arith))

@@ -1,28 +1,30 @@
 -- `encode::copy::copy_response` meets its contract.
+use Prim.Native.Nat.{◌<◌}
+use mathlib.Core.Path.{refl}
 use native.Mathlib.Omega.{arith}
-use lib.IntN.{ℤ, pos}
+use borrow.Author.Tests.{leb-true, le-leb}
 use lib.ListN.{length}
-use Rattle.protocol.specs.Kinds as K
-use Rattle.writers.proofs.Encoding.{Judged, judged, room_of, refused, finished}
-use Rattle.encode.specs.Given as G
+use mir.Syntax.{w8}
+use Rattle.std.proofs.lemmas.Result.{err_from_is_err_and}
+use Rattle.protocol.specs.Each.{bytes_of_each}
+use Rattle.protocol.specs.Fields.{most, unsigned_count, bytes, atom_bytes}
+use Rattle.protocol.specs.WellFormed.{body_bytes}
+use Rattle.writers.proofs.Puts.{◌and◌, none}
+use Rattle.writers.proofs.Signs.{bits_of_lem, byte_of}
+use Rattle.encode.proofs.Answered.{denied, wrote}
 use Rattle.encode.proofs.Measures as M
 use Rattle.encode.proofs.copy.copy_response.Goals as goal
 
-pub returns-in_default : goal.returns-in_default
-returns-in_default c =
-    let says : (z : ℤ) → let a = c.args in Judged K.backend (G.formatted a.type_byte) (G.formats_of a.type_byte z a.column_formats.now) (length a.out.now) c.verdict-r.result = λ z. judged (M.formatted _ z c.args.column_formats.now) (omega arith) (cc) (λ _. omega (arith, c)) c.verdict-r.ensures in
-    λ z e. refused (says z) c.in_default.is
-
-pub write_copy_response-requires : goal.write_copy_response-requires
-write_copy_response-requires c =
-    let says : (z : ℤ) → let a = c.args in Judged K.backend (G.formatted a.type_byte) (G.formats_of a.type_byte z a.column_formats.now) (length a.out.now) c.verdict-r.result = λ z. judged (M.formatted _ z c.args.column_formats.now) (omega arith) (cc) (λ _. omega (arith, c)) c.verdict-r.ensures in
-    let a = c.args in
-    let h = room_of (M.formatted a.type_byte (pos 0) a.column_formats.now) (says (pos 0)) c.in-Done.is in
-    (omega (arith, h.whole), h.fits, h.small)
+pub returns-in_err-n : goal.returns-in_err-n
+returns-in_err-n c = let a = c.args in
+    denied (M.formatted a.type_byte a.format a.column_formats.now) (omega arith) (cc) (λ _. omega (arith, c.plus-size.ensures))
+    (err_from_is_err_and c.from_residual.result c.from_residual.ensures.1) c.in_err-n.ensures
 
 pub returns : goal.returns
-returns c =
-    let says : (z : ℤ) → let a = c.args in Judged K.backend (G.formatted a.type_byte) (G.formats_of a.type_byte z a.column_formats.now) (length a.out.now) c.verdict-r.result = λ z. judged (M.formatted _ z c.args.column_formats.now) (omega arith) (cc) (λ _. omega (arith, c)) c.verdict-r.ensures in
-    λ z e.
-    let a = c.args in
-    finished (M.formatted a.type_byte z a.column_formats.now) (says z) c.in-Done.is (c.write_copy_response.ensures z e)
+unfolding body_bytes bytes_of_each bytes atom_bytes
+returns c = let a = c.args in
+    let small : c.bits8.result < 256 = omega arith in
+    let format = bits_of_lem w8 1 a.format c.ranges.format c.bits8.ensures in
+    wrote (M.formatted a.type_byte a.format a.column_formats.now) (omega arith) (cc) (λ _. omega (arith, c.plus-size.ensures)) c.in_ok-n.ensures c.put_head-at.ensures
+    (λ able. (λ h. byte_of a.format small format (c.put_byte-at.ensures.fits refl h)) and c.put_formats.ensures.fits (le-leb (length a.column_formats.now) (most unsigned_count) (let few = leb-true _ _ able in omega (arith, few))) and none)
+    (omega arith)

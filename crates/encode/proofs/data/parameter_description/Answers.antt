@@ -1,30 +1,25 @@
 -- `encode::data::parameter_description` meets its contract.
-use Prim.Native.Nat.{◌≤◌}
+use mathlib.Core.Path.{refl}
 use native.Mathlib.Omega.{arith}
-use borrow.Author.Tests.{leb-true}
-use lib.ListN.{length}
-use Rattle.protocol.specs.Fields.{most, unsigned_count}
+use Rattle.std.proofs.lemmas.Result.{err_from_is_err_and}
+use Rattle.protocol.specs.Each.{bytes_of_each}
+use Rattle.protocol.specs.Fields.{bytes, atom_bytes}
 use Rattle.protocol.specs.Kinds as K
-use Rattle.writers.proofs.Encoding.{Judged, judged, room_of, refused, finished}
+use Rattle.protocol.specs.WellFormed.{body_bytes}
+use Rattle.writers.proofs.Puts.{◌and◌, none}
 use Rattle.encode.specs.Given as G
+use Rattle.encode.proofs.Answered.{denied, wrote}
 use Rattle.encode.proofs.Measures as M
 use Rattle.encode.proofs.data.parameter_description.Goals as goal
 
-pub returns-in_default : goal.returns-in_default
-returns-in_default c =
-    let says : let a = c.args in Judged K.backend K.parameter_description (G.parameter_description a.types.now) (length a.out.now) c.verdict-r.result = judged (M.parameter_description _) (omega arith) (cc) (λ _. omega (arith, c)) c.verdict-r.ensures in
-    refused says c.in_default.is
-
-pub write_parameter_description-requires : goal.write_parameter_description-requires
-write_parameter_description-requires c =
-    let says : let a = c.args in Judged K.backend K.parameter_description (G.parameter_description a.types.now) (length a.out.now) c.verdict-r.result = judged (M.parameter_description _) (omega arith) (cc) (λ _. omega (arith, c)) c.verdict-r.ensures in
-    let a = c.args in
-    let h = room_of (M.parameter_description a.types.now) says c.in-Done.is in
-    let few : length a.types.now ≤ most unsigned_count = leb-true _ _ h.able in
-    (omega (arith, h.whole), h.fits, h.small, few)
+pub returns-in_err-n : goal.returns-in_err-n
+returns-in_err-n c = let a = c.args in
+    denied (M.parameter_description a.types.now) (omega arith) refl (λ _. omega arith)
+    (err_from_is_err_and c.from_residual.result c.from_residual.ensures.1) c.in_err-n.ensures
 
 pub returns : goal.returns
-returns c =
-    let says : let a = c.args in Judged K.backend K.parameter_description (G.parameter_description a.types.now) (length a.out.now) c.verdict-r.result = judged (M.parameter_description _) (omega arith) (cc) (λ _. omega (arith, c)) c.verdict-r.ensures in
-    let a = c.args in
-    finished (M.parameter_description a.types.now) says c.in-Done.is c.write_parameter_description.ensures
+unfolding K.parameter_description G.parameter_description body_bytes bytes_of_each bytes atom_bytes
+returns c = let a = c.args in
+    wrote (M.parameter_description a.types.now) (omega arith) refl (λ _. omega arith) c.in_ok-n.ensures c.put_head-at.ensures
+    (λ able. c.put_oids.ensures.fits able and none)
+    (omega arith)

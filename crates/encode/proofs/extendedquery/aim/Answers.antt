@@ -1,26 +1,23 @@
 -- `encode::extendedquery::aim` meets its contract.
+use mathlib.Core.Path.{refl}
 use native.Mathlib.Omega.{arith}
-use lib.ListN.{length}
-use Rattle.protocol.specs.Kinds as K
-use Rattle.writers.proofs.Encoding.{Judged, judged, room_of, refused, finished}
-use Rattle.encode.specs.Given as G
+use Rattle.std.proofs.lemmas.Result.{err_from_is_err_and}
+use Rattle.protocol.specs.Each.{bytes_of_each}
+use Rattle.protocol.specs.Fields.{bytes, atom_bytes}
+use Rattle.protocol.specs.WellFormed.{body_bytes}
+use Rattle.writers.proofs.Puts.{◌and◌, none}
+use Rattle.encode.proofs.Answered.{denied, wrote}
 use Rattle.encode.proofs.Measures as M
 use Rattle.encode.proofs.extendedquery.aim.Goals as goal
 
-pub returns-in_default : goal.returns-in_default
-returns-in_default c =
-    let says : let a = c.args in Judged K.frontend (G.aimed a.type_byte) (G.aim_of a.type_byte a.target_type a.name.now) (length a.out.now) c.verdict-r.result = judged (M.aimed _ _ _) (omega arith) (cc) (λ _. omega (arith, c)) c.verdict-r.ensures in
-    refused says c.in_default.is
-
-pub write_aim-requires : goal.write_aim-requires
-write_aim-requires c =
-    let says : let a = c.args in Judged K.frontend (G.aimed a.type_byte) (G.aim_of a.type_byte a.target_type a.name.now) (length a.out.now) c.verdict-r.result = judged (M.aimed _ _ _) (omega arith) (cc) (λ _. omega (arith, c)) c.verdict-r.ensures in
-    let a = c.args in
-    let h = room_of (M.aimed a.type_byte a.target_type a.name.now) says c.in-Done.is in
-    (omega (arith, h.whole), h.fits, h.small)
+pub returns-in_err-n : goal.returns-in_err-n
+returns-in_err-n c = let a = c.args in
+    denied (M.aimed a.type_byte a.target_type a.name.now) (omega arith) (cc) (λ _. omega (arith, c.plus-size.ensures))
+    (err_from_is_err_and c.from_residual.result c.from_residual.ensures.1) c.in_err-n.ensures
 
 pub returns : goal.returns
-returns c =
-    let says : let a = c.args in Judged K.frontend (G.aimed a.type_byte) (G.aim_of a.type_byte a.target_type a.name.now) (length a.out.now) c.verdict-r.result = judged (M.aimed _ _ _) (omega arith) (cc) (λ _. omega (arith, c)) c.verdict-r.ensures in
-    let a = c.args in
-    finished (M.aimed a.type_byte a.target_type a.name.now) says c.in-Done.is c.write_aim.ensures
+unfolding body_bytes bytes_of_each bytes atom_bytes
+returns c = let a = c.args in
+    wrote (M.aimed a.type_byte a.target_type a.name.now) (omega arith) (cc) (λ _. omega (arith, c.plus-size.ensures)) c.in_ok-n.ensures c.put_head-at.ensures
+    (λ _. c.put_byte-at.ensures.fits refl and c.put_text.ensures.fits refl and none)
+    (omega arith)

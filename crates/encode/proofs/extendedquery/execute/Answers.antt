@@ -1,29 +1,28 @@
 -- `encode::extendedquery::execute` meets its contract.
+use mathlib.Core.Path.{refl}
 use native.Mathlib.Omega.{arith}
-use lib.ListN.{length}
 use mir.Syntax.{w32}
+use Rattle.std.proofs.lemmas.Result.{err_from_is_err_and}
+use Rattle.protocol.specs.Each.{bytes_of_each}
+use Rattle.protocol.specs.Fields.{bytes, atom_bytes}
 use Rattle.protocol.specs.Kinds as K
-use Rattle.writers.proofs.Encoding.{Judged, judged, room_of, refused, finished}
+use Rattle.protocol.specs.WellFormed.{body_bytes}
+use Rattle.writers.proofs.Puts.{◌and◌, none}
 use Rattle.writers.proofs.Signs.{bits_of_lem}
 use Rattle.encode.specs.Given as G
+use Rattle.encode.proofs.Answered.{denied, wrote}
 use Rattle.encode.proofs.Measures as M
 use Rattle.encode.proofs.extendedquery.execute.Goals as goal
 
-pub returns-in_default : goal.returns-in_default
-returns-in_default c =
-    let says : let a = c.args in Judged K.frontend K.execute (G.execute a.name.now a.max_rows) (length a.out.now) c.verdict-r.result = judged (M.execute _ _) (omega arith) c.no_zero-able.ensures (λ _. omega (arith, c)) c.verdict-r.ensures in
-    refused says c.in_default.is
-
-pub write_execute-requires : goal.write_execute-requires
-write_execute-requires c =
-    let says : let a = c.args in Judged K.frontend K.execute (G.execute a.name.now a.max_rows) (length a.out.now) c.verdict-r.result = judged (M.execute _ _) (omega arith) c.no_zero-able.ensures (λ _. omega (arith, c)) c.verdict-r.ensures in
-    let a = c.args in
-    let h = room_of (M.execute a.name.now a.max_rows) says c.in-Done.is in
-    (omega (arith, h.whole), h.fits, h.small)
+pub returns-in_err-n : goal.returns-in_err-n
+returns-in_err-n c = let a = c.args in
+    denied (M.execute a.name.now a.max_rows) (omega arith) c.no_zero-able.ensures (λ _. omega (arith, c.plus-size.ensures))
+    (err_from_is_err_and c.from_residual.result c.from_residual.ensures.1) c.in_err-n.ensures
 
 pub returns : goal.returns
-returns c =
-    let says : let a = c.args in Judged K.frontend K.execute (G.execute a.name.now a.max_rows) (length a.out.now) c.verdict-r.result = judged (M.execute _ _) (omega arith) c.no_zero-able.ensures (λ _. omega (arith, c)) c.verdict-r.ensures in
-    let a = c.args in
-    let rows = bits_of_lem w32 4 a.max_rows c.ranges.max_rows c.bits32-rows.ensures in
-    finished (M.execute a.name.now a.max_rows) says c.in-Done.is (c.write_execute.ensures a.max_rows rows)
+unfolding K.execute G.execute body_bytes bytes_of_each bytes atom_bytes
+returns c = let a = c.args in
+    let rows = bits_of_lem w32 4 a.max_rows c.ranges.max_rows c.bits32.ensures in
+    wrote (M.execute a.name.now a.max_rows) (omega arith) c.no_zero-able.ensures (λ _. omega (arith, c.plus-size.ensures)) c.in_ok-n.ensures c.put_head-at.ensures
+    (λ _. c.put_text-at.ensures.fits refl and rw rows at (c.put_word.ensures.fits refl) and none)
+    (omega arith)

@@ -1,29 +1,28 @@
 -- `encode::response::notification_response` meets its contract.
+use mathlib.Core.Path.{refl}
 use native.Mathlib.Omega.{arith}
-use lib.ListN.{length}
 use mir.Syntax.{w32}
+use Rattle.std.proofs.lemmas.Result.{err_from_is_err_and}
+use Rattle.protocol.specs.Each.{bytes_of_each}
+use Rattle.protocol.specs.Fields.{bytes, atom_bytes}
 use Rattle.protocol.specs.Kinds as K
-use Rattle.writers.proofs.Encoding.{Judged, judged, room_of, refused, finished}
+use Rattle.protocol.specs.WellFormed.{body_bytes}
+use Rattle.writers.proofs.Puts.{◌and◌, none}
 use Rattle.writers.proofs.Signs.{bits_of_lem}
 use Rattle.encode.specs.Given as G
+use Rattle.encode.proofs.Answered.{denied, wrote}
 use Rattle.encode.proofs.Measures as M
 use Rattle.encode.proofs.response.notification_response.Goals as goal
 
-pub returns-in_default : goal.returns-in_default
-returns-in_default c =
-    let says : let a = c.args in Judged K.backend K.notification_response (G.notification_response a.pid a.channel.now a.payload.now) (length a.out.now) c.verdict-r.result = judged (M.notification_response _ _ _) (omega arith) (cc) (λ _. omega (arith, c)) c.verdict-r.ensures in
-    refused says c.in_default.is
-
-pub write_notification_response-requires : goal.write_notification_response-requires
-write_notification_response-requires c =
-    let says : let a = c.args in Judged K.backend K.notification_response (G.notification_response a.pid a.channel.now a.payload.now) (length a.out.now) c.verdict-r.result = judged (M.notification_response _ _ _) (omega arith) (cc) (λ _. omega (arith, c)) c.verdict-r.ensures in
-    let a = c.args in
-    let h = room_of (M.notification_response a.pid a.channel.now a.payload.now) says c.in-Done.is in
-    (omega (arith, h.whole), h.fits, h.small)
+pub returns-in_err-n : goal.returns-in_err-n
+returns-in_err-n c = let a = c.args in
+    denied (M.notification_response a.pid a.channel.now a.payload.now) (omega arith) (cc) (λ _. omega (arith, c.plus4-size.ensures))
+    (err_from_is_err_and c.from_residual.result c.from_residual.ensures.1) c.in_err-n.ensures
 
 pub returns : goal.returns
-returns c =
-    let says : let a = c.args in Judged K.backend K.notification_response (G.notification_response a.pid a.channel.now a.payload.now) (length a.out.now) c.verdict-r.result = judged (M.notification_response _ _ _) (omega arith) (cc) (λ _. omega (arith, c)) c.verdict-r.ensures in
-    let a = c.args in
-    let pid = bits_of_lem w32 4 a.pid c.ranges.pid c.bits32-bits.ensures in
-    finished (M.notification_response a.pid a.channel.now a.payload.now) says c.in-Done.is (c.write_notification_response.ensures a.pid pid)
+unfolding K.notification_response G.notification_response body_bytes bytes_of_each bytes atom_bytes
+returns c = let a = c.args in
+    let pid = bits_of_lem w32 4 a.pid c.ranges.pid c.bits32.ensures in
+    wrote (M.notification_response a.pid a.channel.now a.payload.now) (omega arith) (cc) (λ _. omega (arith, c.plus4-size.ensures)) c.in_ok-n.ensures c.put_head-at.ensures
+    (λ _. rw pid at (c.put_word-at.ensures.fits refl) and c.put_text-at.ensures.fits refl and c.put_text.ensures.fits refl and none)
+    (omega arith)

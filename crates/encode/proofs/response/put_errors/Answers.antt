@@ -1,62 +1,47 @@
 -- `encode::response::put_errors` meets its contract.
-use Prim.Native.Nat.{◌+◌, ◌-◌, ◌≤◌}
-use mathlib.Core.Bool.{true}
+use Prim.Native.Nat.{◌+◌}
 use mathlib.Core.Path.{◌≡◌, refl, ap, ◌∙◌, sym}
 use native.Mathlib.Omega.{arith}
-use borrow.Author.Rules.{rules}
-use lib.ListN.{length, get_or, drop, length-take, length-drop}
-use Rattle.protocol.specs.Encode.{error_fields_given, texts_given}
+use lib.ListN.{length, drop}
+use Rattle.protocol.specs.Encode.{error_fields_given}
 use Rattle.protocol.specs.Kinds.{error_field}
-use Rattle.writers.specs.Given.{is_some}
 use Rattle.writers.specs.Writing.{write}
+use Rattle.writers.proofs.ErrorLaws.{errors_many, errors_bytes, errors_are}
 use Rattle.writers.proofs.Laws.{turn, ◌then◌}
-use Rattle.writers.proofs.ErrorLaws.{errors_many, errors_same, errors_bytes, errors_more, errors_none, errors_are}
-use Rattle.writers.proofs.TextLaws.{text_right, text_over}
 use Rattle.encode.proofs.Ended.{ended_field}
+use Rattle.encode.proofs.Turns.{error_turn, error_end}
 use Rattle.encode.proofs.response.put_errors.Goals as goal
 
 pub loop-i-init : goal.loop-i-init
 loop-i-init c = let a = c.args in
-    let many = errors_many a.codes.now a.lengths.now a.joined.now c.requires.1 in
-    (many, omega arith, omega arith, omega arith, refl, sym (errors_same a.codes.now a.lengths.now a.joined.now many) ∙ c.requires.1, refl)
+    (errors_many a.codes.now a.lengths.now a.joined.now c.requires.1, omega arith, refl, c.requires.1, refl)
 
-pub overflow_add-e : goal.overflow_add-e
-overflow_add-e c =
-    let right : let q = c.loop-i in let a = c.args in let n = get_or a.lengths.now q.i 0 in (n ≤ length a.joined.now - q.j) × (is_some (texts_given (drop (q.i + 1) a.lengths.now) (drop (q.j + n) a.joined.now)) ≡ true) = let q = c.loop-i in let a = c.args in text_right a.lengths.now a.joined.now q.i q.j c.loop-i-test.true q.invariant.5 in
-    omega (arith, right.0)
-
-pub slice_bounds-put_text-end : goal.slice_bounds-put_text-end
-slice_bounds-put_text-end c =
-    let right : let q = c.loop-i in let a = c.args in let n = get_or a.lengths.now q.i 0 in (n ≤ length a.joined.now - q.j) × (is_some (texts_given (drop (q.i + 1) a.lengths.now) (drop (q.j + n) a.joined.now)) ≡ true) = let q = c.loop-i in let a = c.args in text_right a.lengths.now a.joined.now q.i q.j c.loop-i-test.true q.invariant.5 in
-    omega (arith, right.0)
+pub split_at-requires : goal.split_at-requires
+split_at-requires c = let q = c.loop-i in
+    (error_turn c.args.codes.now c.args.lengths.now q.rest.now q.i (omega (arith, q.invariant.0)) (omega arith) q.invariant.3).fits
 
 pub loop-i-preserved : goal.loop-i-preserved
-loop-i-preserved c =
-    let right : let q = c.loop-i in let a = c.args in let n = get_or a.lengths.now q.i 0 in (n ≤ length a.joined.now - q.j) × (is_some (texts_given (drop (q.i + 1) a.lengths.now) (drop (q.j + n) a.joined.now)) ≡ true) = let q = c.loop-i in let a = c.args in text_right a.lengths.now a.joined.now q.i q.j c.loop-i-test.true q.invariant.5 in
-    let q = c.loop-i in
-    let a = c.args in
-    let n = get_or a.lengths.now q.i 0 in
-    let r = right in
-    let u = c.put_byte-p.ensures.fits refl (omega (arith, r.0)) in
-    let s = c.put_text-p.ensures.fits refl (simp (length-take, length-drop) (omega (arith, r.0, u.place))) in
-    let p = simp (length-take, length-drop) at s.place in
-    let v = errors_more a.codes.now a.lengths.now a.joined.now q.i q.j c.loop-i-test.true q.invariant.0 in (
+loop-i-preserved c = let q = c.loop-i in
+    let cs = c.args.codes.now in
+    let ns = c.args.lengths.now in
+    let t = error_turn cs ns q.rest.now q.i (omega (arith, q.invariant.0)) (omega arith) q.invariant.3 in
+    let cut = c.split_at.ensures in
+    let step = rw (← cut.front, ← cut.back) at t.bytes in
+    let u = c.put_byte-p.ensures.fits refl (omega (arith, cut, t.fits)) in
+    let s = c.put_text-p.ensures.fits refl (omega (arith, cut, t.fits, u.place)) in (
       q.invariant.0,
-      search rules,
-      omega (arith, r.0),
-      omega (arith, r.0, u.place),
+      omega (arith, cut, u.place, s.place),
       omega arith,
-      r.1,
-      turn (errors_bytes (drop (q.i + 1) a.codes.now) (drop (q.i + 1) a.lengths.now) (drop (q.j + n) a.joined.now))
-          (u then s)
-          (ap (write q.out q.p) (sym v) ∙ q.invariant.6),
+      rw cut.back t.more,
+      turn (errors_bytes (drop (q.i + 1) cs) (drop (q.i + 1) ns) c.split_at.result.1.now) (u then s) (ap (write q.out q.p) (sym step) ∙ q.invariant.4),
     )
 
 pub returns : goal.returns
 returns c = let q = c.loop-i in
-    let a = c.args in
-    let none = errors_none a.codes.now a.lengths.now (drop q.j a.joined.now) q.i c.loop-i-test.false q.invariant.0 in
-    let all = text_over a.lengths.now a.joined.now q.i q.j c.loop-i-test.false q.invariant.2 q.invariant.5 in
-    ended_field error_field (error_fields_given a.codes.now a.lengths.now a.joined.now)
-    (λ fs is. let v = errors_are a.codes.now a.lengths.now a.joined.now fs (λ i. (c.shared_slice_known-1.given i).fits) is in (v.written, v.size))
-    (rw none at q.invariant.6) (omega (arith, all)) (c.put_byte.ensures.fits refl (omega (arith, all)))
+    let cs = c.args.codes.now in
+    let ns = c.args.lengths.now in
+    let all = error_end cs ns q.rest.now q.i q.invariant.0 (omega arith) q.invariant.3 in
+    let none : length q.rest.now ≡ 0 = ap length all.0 in
+    ended_field error_field (error_fields_given cs ns c.args.joined.now)
+    (λ fs is. let v = errors_are cs ns c.args.joined.now fs (λ k. (c.type_inv.codes k).fits) is in (v.written, v.size))
+    (rw all.1 at q.invariant.4) (omega (arith, none)) (c.put_byte.ensures.fits refl (omega (arith, none)))

@@ -1,40 +1,29 @@
 -- `encode::response::report` meets its contract.
-use Prim.Native.Nat.{ℕ, ◌<◌}
-use mathlib.Core.Bool.{◌&&◌}
 use native.Mathlib.Omega.{arith}
-use lib.ListN.{length, get_or}
-use Rattle.protocol.specs.Bytes.{no_zero}
-use Rattle.protocol.specs.Encode.{error_fields_given}
-use Rattle.protocol.specs.Kinds as K
-use Rattle.writers.specs.Given.{is_some}
-use Rattle.writers.proofs.Encoding.{Judged, judged, room_of, refused, finished}
+use Rattle.std.proofs.lemmas.Result.{err_from_is_err_and}
+use Rattle.protocol.specs.Each.{bytes_of_each}
+use Rattle.protocol.specs.Fields.{bytes}
+use Rattle.protocol.specs.WellFormed.{body_bytes}
 use Rattle.protocol.proofs.Basics.{and_left}
+use Rattle.writers.proofs.Puts.{◌and◌, none}
 use Rattle.encode.specs.Given as G
+use Rattle.encode.proofs.Answered.{denied, granted, wrote_given}
 use Rattle.encode.proofs.Measures as M
 use Rattle.encode.proofs.response.report.Goals as goal
 
-pub returns-in_default : goal.returns-in_default
-returns-in_default c =
-    let small : (i : ℕ) → get_or c.args.codes.now i 0 < 256 = λ i. (c.shared_slice_known-1.given i).fits in
-    let says : let a = c.args in Judged K.backend (G.reported a.type_byte) (G.report_of a.type_byte a.codes.now a.lengths.now a.joined.now) (length a.out.now) c.verdict-r.result = judged (M.reported _ _ _ _ small) (omega arith) (cc) (λ _. omega (arith, c)) c.verdict-r.ensures in
-    refused says c.in_default.is
-
-pub write_report-requires : goal.write_report-requires
-write_report-requires c =
-    let small : (i : ℕ) → get_or c.args.codes.now i 0 < 256 = λ i. (c.shared_slice_known-1.given i).fits in
-    let says : let a = c.args in Judged K.backend (G.reported a.type_byte) (G.report_of a.type_byte a.codes.now a.lengths.now a.joined.now) (length a.out.now) c.verdict-r.result = judged (M.reported _ _ _ _ small) (omega arith) (cc) (λ _. omega (arith, c)) c.verdict-r.ensures in
-    let a = c.args in
-    let h = room_of (M.reported a.type_byte a.codes.now a.lengths.now a.joined.now small) says c.in-Done.is in
-    let some = is_some (error_fields_given a.codes.now a.lengths.now a.joined.now) in (
-      omega (arith, h.whole),
-      h.fits,
-      h.small,
-      and_left some (no_zero a.joined.now && no_zero a.codes.now) h.able,
-    )
+pub returns-in_err-n : goal.returns-in_err-n
+returns-in_err-n c = let a = c.args in
+    denied (M.reported a.type_byte a.codes.now a.lengths.now a.joined.now (λ i. (c.type_inv.codes i).fits)) (omega arith) (cc) (λ _. omega (arith, c.plus4-size.ensures))
+    (err_from_is_err_and c.from_residual.result c.from_residual.ensures.1) c.in_err-n.ensures
 
 pub returns : goal.returns
-returns c =
-    let small : (i : ℕ) → get_or c.args.codes.now i 0 < 256 = λ i. (c.shared_slice_known-1.given i).fits in
-    let says : let a = c.args in Judged K.backend (G.reported a.type_byte) (G.report_of a.type_byte a.codes.now a.lengths.now a.joined.now) (length a.out.now) c.verdict-r.result = judged (M.reported _ _ _ _ small) (omega arith) (cc) (λ _. omega (arith, c)) c.verdict-r.ensures in
-    let a = c.args in
-    finished (M.reported a.type_byte a.codes.now a.lengths.now a.joined.now small) says c.in-Done.is c.write_report.ensures
+unfolding body_bytes bytes_of_each bytes
+returns c = let a = c.args in
+    wrote_given (G.reported a.type_byte) (λ fs. (fs, tt)) (M.reported a.type_byte a.codes.now a.lengths.now a.joined.now (λ i. (c.type_inv.codes i).fits)) (omega arith) (cc) (λ _. omega (arith, c.plus4-size.ensures)) c.in_ok-n.ensures c.put_head-at.ensures
+    (λ fs is _. (λ _. c.put_errors.ensures.field fs is) and none)
+    (omega arith)
+
+pub put_errors-requires : goal.put_errors-requires
+put_errors-requires c = let a = c.args in
+    let g = granted (M.reported a.type_byte a.codes.now a.lengths.now a.joined.now (λ i. (c.type_inv.codes i).fits)) (omega arith) (cc) (λ _. omega (arith, c.plus4-size.ensures)) c.in_ok-n.ensures in
+    (omega (arith, g.whole, g.fits, c.put_head-at.ensures.near), and_left _ _ (and_left _ _ g.able))

@@ -1,55 +1,38 @@
 -- `encode::startup::put_parameters` meets its contract.
-use Prim.Native.Nat.{◌+◌, ◌-◌, ◌≤◌}
-use mathlib.Core.Bool.{true}
+use Prim.Native.Nat.{◌+◌}
 use mathlib.Core.Path.{◌≡◌, refl, ap, ◌∙◌, sym}
 use native.Mathlib.Omega.{arith}
-use borrow.Author.Rules.{rules}
-use lib.ListN.{length, get_or, drop, length-take, length-drop}
-use Rattle.protocol.specs.Encode.{texts_given, pairs_given}
+use lib.ListN.{length, drop}
+use Rattle.protocol.specs.Encode.{pairs_given}
 use Rattle.protocol.specs.Kinds.{pair}
-use Rattle.writers.specs.Given.{is_some}
 use Rattle.writers.specs.Writing.{write}
 use Rattle.writers.proofs.Laws.{turn}
-use Rattle.writers.proofs.TextLaws.{text_right, text_over, texts_bytes, texts_more, texts_none, pairs_are}
+use Rattle.writers.proofs.TextLaws.{texts_bytes, pairs_are}
 use Rattle.encode.proofs.Ended.{ended_field}
+use Rattle.encode.proofs.Turns.{text_turn, text_end}
 use Rattle.encode.proofs.startup.put_parameters.Goals as goal
 
-pub loop-i-init : goal.loop-i-init
-loop-i-init c = (omega arith, omega arith, omega arith, refl, c.requires.1, refl)
+pub split_at-requires : goal.split_at-requires
+split_at-requires c = let q = c.loop-len in (text_turn c.args.lengths.now q.rest.now q.len-index c.loop-len-test.true q.invariant.2).fits
 
-pub overflow_add-e : goal.overflow_add-e
-overflow_add-e c =
-    let right : let q = c.loop-i in let a = c.args in let n = get_or a.lengths.now q.i 0 in (n ≤ length a.joined.now - q.j) × (is_some (texts_given (drop (q.i + 1) a.lengths.now) (drop (q.j + n) a.joined.now)) ≡ true) = let q = c.loop-i in let a = c.args in text_right a.lengths.now a.joined.now q.i q.j c.loop-i-test.true q.invariant.4 in
-    omega (arith, right.0)
-
-pub slice_bounds-put_text-end : goal.slice_bounds-put_text-end
-slice_bounds-put_text-end c =
-    let right : let q = c.loop-i in let a = c.args in let n = get_or a.lengths.now q.i 0 in (n ≤ length a.joined.now - q.j) × (is_some (texts_given (drop (q.i + 1) a.lengths.now) (drop (q.j + n) a.joined.now)) ≡ true) = let q = c.loop-i in let a = c.args in text_right a.lengths.now a.joined.now q.i q.j c.loop-i-test.true q.invariant.4 in
-    omega (arith, right.0)
-
-pub loop-i-preserved : goal.loop-i-preserved
-loop-i-preserved c =
-    let right : let q = c.loop-i in let a = c.args in let n = get_or a.lengths.now q.i 0 in (n ≤ length a.joined.now - q.j) × (is_some (texts_given (drop (q.i + 1) a.lengths.now) (drop (q.j + n) a.joined.now)) ≡ true) = let q = c.loop-i in let a = c.args in text_right a.lengths.now a.joined.now q.i q.j c.loop-i-test.true q.invariant.4 in
-    let q = c.loop-i in
-    let a = c.args in
-    let n = get_or a.lengths.now q.i 0 in
-    let r = right in
-    let s = c.put_text-p.ensures.fits refl (simp (length-take, length-drop) (omega (arith, r.0))) in
-    let p = simp (length-take, length-drop) at s.place in
-    let v = texts_more a.lengths.now a.joined.now q.i q.j c.loop-i-test.true in (
-      search rules,
-      omega (arith, r.0),
-      omega (arith, r.0),
+pub loop-len-preserved : goal.loop-len-preserved
+loop-len-preserved c = let q = c.loop-len in
+    let ns = c.args.lengths.now in
+    let t = text_turn ns q.rest.now q.len-index c.loop-len-test.true q.invariant.2 in
+    let cut = c.split_at.ensures in
+    let step = rw (← cut.front, ← cut.back) at t.bytes in
+    let s = c.put_text-p.ensures.fits refl (omega (arith, cut, t.fits)) in (
+      omega (arith, cut, s.place),
       omega arith,
-      r.1,
-      turn (texts_bytes (drop (q.i + 1) a.lengths.now) (drop (q.j + n) a.joined.now)) s (ap (write q.out q.p) (sym v) ∙ q.invariant.5),
+      rw cut.back t.more,
+      turn (texts_bytes (drop (q.len-index + 1) ns) c.split_at.result.1.now) s (ap (write q.out q.p) (sym step) ∙ q.invariant.3),
     )
 
 pub returns : goal.returns
-returns c = let q = c.loop-i in
-    let a = c.args in
-    let none = texts_none a.lengths.now (drop q.j a.joined.now) q.i c.loop-i-test.false in
-    let all = text_over a.lengths.now a.joined.now q.i q.j c.loop-i-test.false q.invariant.1 q.invariant.4 in
-    ended_field pair (pairs_given a.lengths.now a.joined.now)
-    (λ ps is. let v = pairs_are a.lengths.now a.joined.now ps is in (v.written, v.size))
-    (rw none at q.invariant.5) (omega (arith, all)) (c.put_byte.ensures.fits refl (omega (arith, all)))
+returns c = let q = c.loop-len in
+    let ns = c.args.lengths.now in
+    let all = text_end ns q.rest.now q.len-index c.loop-len-test.false q.invariant.2 in
+    let none : length q.rest.now ≡ 0 = ap length all.0 in
+    ended_field pair (pairs_given ns c.args.joined.now)
+    (λ ps is. let v = pairs_are ns c.args.joined.now ps is in (v.written, v.size))
+    (rw all.1 at q.invariant.3) (omega (arith, none)) (c.put_byte.ensures.fits refl (omega (arith, none)))

@@ -12,7 +12,7 @@ use Rattle.encode.proofs.startup.request.Goals as goal
 
 pub returns-then-out-lt8 : goal.returns-then-out-lt8
 unfolding K.first_packet able_each body_bytes bytes_of_each be header frame
-returns-then-out-lt8 c = refused (short K.first_packet (G.requested c.args.code) tt refl refl refl (omega (arith, c.if-out-lt8))) refl
+returns-then-out-lt8 c = rw c.at.ensures (refused (short K.first_packet (G.requested c.args.code) tt refl refl refl (omega (arith, c.if-out-lt8))) refl)
 
 pub returns : goal.returns
 unfolding K.first_packet able_each body_bytes bytes_of_each be header frame
