@@ -19,8 +19,8 @@ use Rattle.reader.specs.Row.{of_row}
 use Rattle.reader.specs.RowAnswer as R
 use Rattle.reader.specs.RowAnswer.{Row}
 use Rattle.row_builder.specs.Building.{of_built}
-use Rattle.row_builder.specs.declared.Built.TheVariants as B
-use Rattle.row_builder.specs.declared.Built.{Built}
+use Rattle.row_builder.specs.Built as B
+use Rattle.row_builder.specs.Built.{Built}
 use Rattle.row_builder.specs.declared.Row.{Row as Stored}
 
 value_by : {X R : Type 0} → (X → R) → R → Option X → R

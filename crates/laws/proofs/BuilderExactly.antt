@@ -17,8 +17,8 @@ use Rattle.protocol.specs.Kinds.{large_frame, data_row}
 use Rattle.protocol.specs.Refusals.{not_representable, no_such_element}
 use Rattle.protocol.proofs.Basics.{zero_one}
 use Rattle.row_builder.specs.Building.{stands, built_by, of_built, begin_of, grow_of, drop_of, finish_of, left_by}
-use Rattle.row_builder.specs.declared.Built.TheVariants as B
-use Rattle.row_builder.specs.declared.Built.{Built}
+use Rattle.row_builder.specs.Built as B
+use Rattle.row_builder.specs.Built.{Built}
 use Rattle.row_builder.specs.declared.Row.{Row}
 use Rattle.writers.specs.Writing.{verdict_of}
 use Rattle.laws.specs.BuilderStatements.{Column, Stands, Standing, the_builder, BuildsExactly, BuilderExactly, KeepsTheRoom, append, drop_last, finish, LeavesAll}

@@ -19,8 +19,8 @@ use Rattle.protocol.specs.Kinds.{large, nullable, data_row, backend}
 use Rattle.protocol.specs.Reading.{got, pass_items}
 use Rattle.protocol.specs.Rules.{rules_of}
 use Rattle.row_builder.specs.Building.{built_by, begin_of, grow_of, append_of, columns_end, drop_of, head_of, left_by}
-use Rattle.row_builder.specs.declared.Built.TheVariants as B
-use Rattle.row_builder.specs.declared.Built.{Built}
+use Rattle.row_builder.specs.Built as B
+use Rattle.row_builder.specs.Built.{Built}
 use Rattle.row_builder.specs.declared.Row.{Row}
 use Rattle.writers.specs.Writing.{write, verdict_of}
 use Rattle.writers.proofs.Laws.{front}

@@ -16,7 +16,7 @@ use Rattle.protocol.specs.Kinds.{large, nullable, data_row, backend}
 use Rattle.protocol.specs.Rules.{rules_of}
 use Rattle.protocol.proofs.Basics.{zero_one}
 use Rattle.row_builder.specs.Building.{built_by, of_built, drop_of, finish_of, left_by}
-use Rattle.row_builder.specs.declared.Built.TheVariants as B
+use Rattle.row_builder.specs.Built as B
 use Rattle.row_builder.specs.declared.Row.{Row}
 use Rattle.laws.specs.Arguments.{All}
 use Rattle.laws.specs.BuilderStatements.{Outcome, Column, row_of, row_frame, Stands, the_builder, encoded, Held, Call, append, drop_last, finish, expected, held_by, called, after, CallInRange, IsBuilt, Histories}

@@ -12,8 +12,8 @@ use Rattle.protocol.specs.Refusals.{length_above_limit, output_too_short, not_re
 use Rattle.protocol.specs.Rules.{rules_of}
 use Rattle.protocol.specs.WellFormed.{Contents, WellFormed, frame}
 use Rattle.row_builder.specs.Building.{begin_of, append_of, drop_of, finish_of, left_by, built_by, of_built}
-use Rattle.row_builder.specs.declared.Built.TheVariants as B
-use Rattle.row_builder.specs.declared.Built.{Built}
+use Rattle.row_builder.specs.Built as B
+use Rattle.row_builder.specs.Built.{Built}
 use Rattle.row_builder.specs.declared.Row.{Row}
 use Rattle.laws.specs.Arguments.{All}
 use Rattle.laws.specs.EncodeStatements.{Encoder, Decodes}

@@ -21,9 +21,9 @@ use Rattle.host_parts.specs.Reads.{LaysRow, row_out, row_read}
 use Rattle.reader.specs.Row.{of_row, row_told, ReadsRow, places_in, starts_of, lengths_of, over}
 use Rattle.reader.specs.RowAnswer as R
 use Rattle.reader.specs.RowAnswer.{Row}
-use Rattle.row_builder.specs.Building.{left_by}
-use Rattle.row_builder.specs.declared.Built.TheVariants as B
-use Rattle.row_builder.specs.declared.Built.{Built}
+use Rattle.row_builder.specs.Building.{built, left_by}
+use Rattle.row_builder.specs.Built as B
+use Rattle.row_builder.specs.Built.{Built}
 use Rattle.lent.specs.Lent.{Building, Lists, Lent}
 use Rattle.laws.proofs.Answered.{encoded_unsuccessful, not_success}
 use Rattle.laws.proofs.BuilderExactly.{left_kept}
@@ -86,7 +86,7 @@ lent = record {
       let row = row_read s x.starts x.lengths in
       let e = no_places row s x (row_status row (rw h.answer at u)) in
       same_lists x y (h.starts ∙ e.0) (h.lengths ∙ e.1);
-  row_builder = λ definition p xs room left r h u. h.1 ∙ left_kept r p xs room u;
+  row_builder = λ definition p xs room left r h u. h.1 ∙ left_kept (built r) p xs room u;
   tusweram_row = λ definition p xs x y n h u.
       let e = both_kept (definition x) p xs x (rw h.answer at u) in
       same_building x y (h.row ∙ e.0) (h.room ∙ e.1);

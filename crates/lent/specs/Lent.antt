@@ -15,8 +15,9 @@ use Rattle.host_layout.specs.LaidOut.{of_numbers}
 use Rattle.host_parts.specs.Built.{Renews, of_number}
 use Rattle.host_parts.specs.Reads.{LaysRow}
 use Rattle.reader.specs.Row.{of_row, row_told, ReadsRow}
-use Rattle.row_builder.specs.Building.{left_by, of_built}
-use Rattle.row_builder.specs.declared.Built.{Built}
+use Rattle.row_builder.specs.Building.{built, left_by, of_built}
+use Rattle.row_builder.specs.Built.{Built}
+use Rattle.row_builder.specs.declared.Row.{Row}
 
 -- a call that is lent L: `Promise` is its contract, of what was lent before, the answer, and what was lent after; `says` sets its answer out
 abbrev pub Leaves : {L R X : Type 0} → (R → Answer X) → (L → R → L → Type 0) → Type 0
@@ -48,7 +49,7 @@ pub record Lent : Type 0 where
       → Leaves of_numbers (λ (x : Lists) (r : List ℕ) (y : Lists). LaysRow s x.starts x.lengths y.starts y.lengths r)
   -- crate row_builder: each call that writes, whose contract is of this form
   pub row_builder : (definition : List ℕ → Built) (p : ℕ) (xs : List ℕ)
-      → Leaves of_built (λ room (r : Built) left. (r ≡ definition room) × (left ≡ left_by r p xs room))
+      → Leaves (λ (r : Result Row Refused). of_built (built r)) (λ room r left. (built r ≡ definition room) × (left ≡ left_by (built r) p xs room))
   -- host_parts::building: the two numbers and the room; its answer is the refusal's number
   pub tusweram_row : (definition : Building → Built) (p : ℕ) (xs : List ℕ)
       → Leaves of_number (λ (x : Building) (n : ℕ) (y : Building). Renews (definition x) p xs x.row x.room n y.row y.room)

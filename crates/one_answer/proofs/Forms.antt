@@ -52,7 +52,11 @@ use Rattle.writers.proofs.Puts.{has_room}
 use Rattle.reader.specs.Row.{row_told, places_in, starts_of, lengths_of, over}
 use Rattle.reader.specs.RowAnswer as Row
 use Rattle.reader.specs.RowAnswer.{Row}
-use Rattle.one_answer.specs.Forms.{Tells, ByDefinition, WithBuffer, AnswersTell, StepsTell, HeadersTell, ItemsTell, ListingTells, ToldWithBuffer, Frames, Encoders, HostEncoders, Writers, Pages, Readers, WholeRows, HostRows, HostBuilders}
+use Rattle.row_builder.specs.Building.{built}
+use Rattle.row_builder.specs.Built as Built
+use Rattle.row_builder.specs.Built.{Built}
+use Rattle.row_builder.specs.declared.Row.{Row as Stored}
+use Rattle.one_answer.specs.Forms.{Tells, ByDefinition, WithBuffer, AnswersTell, StepsTell, HeadersTell, ItemsTell, ListingTells, BuildersTell, ToldWithBuffer, Frames, Encoders, HostEncoders, Writers, Pages, Readers, WholeRows, HostRows, HostBuilders}
 
 -- ---- a step's answer is told by what it reads
 
@@ -235,6 +239,14 @@ opening_again (Ok mode) = ap Ok (mode_again mode)
 opening_again (Err B.NoMode) = refl
 opening_again (Err B.Oversize) = refl
 
+abbrev built_back : Built → Result Stored Refused
+built_back (Built.Is row) = Ok row
+built_back (Built.Refused number place) = Err (refused_back number place)
+
+built_again : (r : Result Stored Refused) → built_back (built r) ≡ r
+built_again (Ok row) = refl
+built_again (Err r) = ap Err (refused_again r)
+
 rest_one : {n m : ℕ} (r s : Span) → got r n ≡ got s m → r ≡ s
 rest_one r s e = cc
 
@@ -273,6 +285,9 @@ listing_tells = record {
   ending = told_back end_told end_back end_again;
   opening = told_back opening_told opening_back opening_again;
 }
+
+pub builders_tell : BuildersTell
+builders_tell = told_back built built_back built_again
 
 -- ---- what a definition says
 

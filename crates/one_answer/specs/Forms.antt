@@ -26,7 +26,8 @@ use Rattle.listing.specs.declared.End.{End}
 use Rattle.listing.specs.declared.Filled.{Filled}
 use Rattle.reader.specs.Row.{ReadsRow, row_told}
 use Rattle.reader.specs.declared.FrameReader.{FrameReader}
-use Rattle.row_builder.specs.declared.Built.{Built}
+use Rattle.row_builder.specs.Building.{built}
+use Rattle.row_builder.specs.Built.{Built}
 use Rattle.writers.specs.Writing.{Put}
 
 -- an answer
@@ -89,6 +90,10 @@ pub record ListingTells : Type 0 where
   pub step : Tells (λ (r : Result (Message × ℕ) End). step_of (step_told r))
   pub ending : Tells end_told
   pub opening : Tells opening_told
+
+-- a row that is built
+abbrev pub BuildersTell : Type 0
+BuildersTell = Tells built
 
 -- `(set r ≡ definition) × (x ≡ left (set r))`, where `set` tells the case: of the answer, and of what it leaves in a lent buffer
 abbrev pub ToldWithBuffer : Type 1
