@@ -11,8 +11,8 @@ use Rattle.protocol.specs.Rules.{rules_of}
 use Rattle.protocol.specs.Stream.{Step, frame, stop, Stream, step_at, stream_by, stream_from}
 use Rattle.listing.specs.declared.Left.TheVariants as L
 use Rattle.listing.specs.declared.Left.{Left}
-use Rattle.listing.specs.declared.Opening.TheVariants as O
-use Rattle.listing.specs.declared.Opening.{Opening}
+use Rattle.listing.specs.Opening as O
+use Rattle.listing.specs.Opening.{Opening}
 use Rattle.listing.specs.Listing.{opening_of, stream_text, text_from, listing_of, left_text, Lines, step_line, line_from, line_of, lines_of}
 use Rattle.listing.proofs.Filling.{before}
 use Rattle.listing.proofs.Steps.{step_over, frame_size}

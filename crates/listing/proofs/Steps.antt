@@ -16,6 +16,16 @@ use Rattle.protocol.specs.Decode.{decode_of}
 use Rattle.protocol.specs.Stream.{frame, stop, whole, step_by, step_at}
 use Rattle.protocol.proofs.Basics.{zero_one}
 use Rattle.protocol.proofs.Framed.{record_size}
+use Rattle.std.proofs.Common.{Err}
+use Rattle.listing.specs.declared.End.TheVariants as E
+use Rattle.listing.specs.declared.End.{End}
+use Rattle.listing.specs.Listing.{end_told, step_of, step_told}
+
+-- the end that the code answers
+pub stopped : (e : End) → step_of (step_told (Err e)) ≡ stop (end_told e)
+stopped E.Whole = refl
+stopped E.NeedMore = refl
+stopped (E.Refused r) = refl
 
 module _ (rules : Rules) (s : List ℕ) (p : ℕ) where
   -- no byte is left there

@@ -1,8 +1,8 @@
 -- Texts one after the other: what the writers of `pen` leave, where a text's length is its own.
-use Prim.Native.Nat.{ℕ, ◌+◌}
+use Prim.Native.Nat.{ℕ}
 use mathlib.Core.List.{List, ◌++◌}
 use mathlib.Core.Path.{◌≡◌}
-use lib.ListN.{length, length-append}
+use lib.ListN.{length-append}
 use Rattle.writers.proofs.Laws as Laws
 use Rattle.listing.specs.Text.{Wrote}
 

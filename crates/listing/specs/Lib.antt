@@ -1,3 +1,5 @@
 pub mod Text
 pub mod Names
+pub mod Opening
+pub mod Step
 pub mod Listing

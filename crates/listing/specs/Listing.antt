@@ -1,11 +1,13 @@
 -- The listing of a whole input (docs/FORMAT.md 10): a digit for the mode, then the stream of frames.
-use Rattle.std.specs.Prelude.{ℕ, zero, suc, ◌+◌, ◌-◌, ◌≤◌, cond, List, [], ◌∷◌, ◌++◌, ◌≡◌, ltb, length, drop}
+use Rattle.std.specs.Prelude.{ℕ, zero, suc, ◌+◌, ◌-◌, ◌≤◌, cond, List, [], ◌∷◌, ◌++◌, ◌≡◌, ltb, length, drop, Result, Ok, Err}
 use Rattle.std.proofs.Math.Option.{Option, some, none}
 use Rattle.protocol.specs.declared.Message.{Message}
+use Rattle.protocol.specs.declared.mode.Mode.{Mode as Given}
 use Rattle.protocol.specs.Answers.{Answer, success, needs_more, refusal}
 use Rattle.protocol.specs.Kinds.{Mode, modes, find}
 use Rattle.protocol.specs.Names.{name_of, letters_of}
 use Rattle.protocol.specs.Rules.{rules_of}
+use Rattle.protocol.specs.Told.{mode_number, number_of}
 use Rattle.protocol.specs.Stream as Stream
 use Rattle.protocol.specs.Stream.{End, whole, need_more, refused, frame, stop, FrameAt, Stream, step_at, stream_from}
 use Rattle.writers.specs.Writing.{write}
@@ -13,11 +15,35 @@ use Rattle.listing.specs.declared.Left.TheVariants as L
 use Rattle.listing.specs.declared.Left.{Left}
 use Rattle.listing.specs.declared.Filled.{Filled}
 use Rattle.listing.specs.declared.Line.{Line}
-use Rattle.listing.specs.declared.Opening.TheVariants as O
-use Rattle.listing.specs.declared.Opening.{Opening}
-use Rattle.listing.specs.declared.Step.TheVariants as S
-use Rattle.listing.specs.declared.Step.{Step}
+use Rattle.listing.specs.declared.BadInput.TheVariants as B
+use Rattle.listing.specs.declared.BadInput.{BadInput}
+use Rattle.listing.specs.declared.End.TheVariants as E
+use Rattle.listing.specs.declared.End.{End as Ending}
+use Rattle.listing.specs.Opening as O
+use Rattle.listing.specs.Opening.{Opening}
+use Rattle.listing.specs.Step as S
+use Rattle.listing.specs.Step.{Step}
 use Rattle.listing.specs.Text.{decimal, Wrote}
+
+-- ---- what the code answers, in these words
+
+abbrev pub opening_told : Result Given BadInput → Opening
+opening_told (Ok mode) = O.Mode (mode_number mode)
+opening_told (Err B.NoMode) = O.NoMode
+opening_told (Err B.Oversize) = O.Oversize
+
+abbrev pub end_told : Ending → End
+end_told E.Whole = whole
+end_told E.NeedMore = need_more
+end_told (E.Refused r) = refused (number_of r)
+
+abbrev pub step_told : Result (Message × ℕ) Ending → Step
+step_told (Ok (m, n)) = S.Frame m n
+step_told (Err E.Whole) = S.Whole
+step_told (Err E.NeedMore) = S.NeedMore
+step_told (Err (E.Refused r)) = S.Refused (number_of r)
+
+-- ---- a step
 
 -- what each case of a step says
 abbrev pub step_of : Step → Stream.Step
@@ -130,6 +156,11 @@ lines_of (suc count) input left =
     let l = line_of input left in
     let t = lines_of count input l.left in
     record { text = l.text ++ t.text; left = t.left }
+
+-- the line of an input that is no listing's
+abbrev pub bad_line : BadInput → List ℕ
+bad_line B.NoMode = end_mode
+bad_line B.Oversize = end_oversize
 
 -- a line stands at p, in no more than 64 bytes
 pub record Lined (line : Lines) (d : List ℕ) (p : ℕ) (out : List ℕ) (r : Line) : Type 0 where

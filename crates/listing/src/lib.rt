@@ -1,41 +1,64 @@
 // The listing of a stream of frames: a line for each frame, and the end that follows them.
 #![tactic(auto)]
 
-ghost use Rattle.std.specs.Prelude.{◌+◌, ◌/◌, ◌≤◌, ◌≡◌, drop, length};
+ghost use Rattle.std.specs.Prelude.{◌+◌, ◌/◌, ◌≤◌, ◌≡◌, drop, length, Err};
 ghost use Rattle.protocol.specs.Rules.{rules_of};
-ghost use Rattle.protocol.specs.Stream.{step_at};
-ghost use Rattle.listing.specs.Listing.{Fills, Lined, line_from, line_of, lines_of, opening_of, sized, step_line, step_of};
+ghost use Rattle.protocol.specs.Stream.{step_at, step_by, stop};
+ghost use Rattle.protocol.specs.Told.{decoded, mode_number};
+ghost use Rattle.listing.specs.Listing.{Fills, Lined, end_told, line_from, line_of, lines_of, opening_of, opening_told, step_line, step_of, step_told};
+ghost use Rattle.listing.specs.declared.BadInput.TheVariants as B;
+ghost use Rattle.listing.specs.declared.Left.TheVariants as L;
 
 mod lines;
 mod names;
 mod text;
 
-use lines::{put_frame, put_need_more, put_refused, put_whole};
-use protocol::{Decoded, Message};
+use lines::{put_bad, put_end, put_frame};
+use protocol::Message;
+use protocol::mode::{Mode, UnknownMode};
+use protocol::refusal::{Refusal, Refused, Unread};
 use writers::put_bytes;
 
 // The most bytes that may follow the mode.
 pub const MOST: usize = 65536;
 
-// What the start of an input says: the mode, or that it names none, or that too many bytes follow it.
-#[derive(Clone, Copy)]
-pub enum Opening {
-    Mode(u8),
+// What is wrong with an input: no mode is named at its start, or too many bytes follow it.
+#[derive(Clone, Copy, Debug, PartialEq, Eq)]
+pub enum BadInput {
     NoMode,
     Oversize,
 }
 
-// What stands at a place of a stream: a frame's message and its bytes, or how the stream ends.
-#[derive(Clone, Copy)]
-pub enum Step {
-    Frame(Message, usize),
-    Whole,
-    NeedMore,
-    Refused(u8),
+impl From<UnknownMode> for BadInput {
+    ghost from_gives = { λ _ bad. bad ≡ B.NoMode };
+
+    fn from(_mode: UnknownMode) -> BadInput {
+        BadInput::NoMode
+    }
 }
 
-// What is left of a listing: all of it, the lines from a place of the stream on, or nothing.
-#[derive(Clone, Copy)]
+// How a stream ends: no byte is left, a frame's end has not arrived, or a frame is refused.
+#[derive(Clone, Copy, Debug, PartialEq, Eq)]
+pub enum End {
+    Whole,
+    NeedMore,
+    Refused(Refusal),
+}
+
+impl From<Unread> for End {
+    ghost from_gives = { λ unread end. stop (end_told end) ≡ step_by (decoded (Err unread)) };
+
+    fn from(unread: Unread) -> End {
+        match unread {
+            Unread::NeedMore => End::NeedMore,
+            Unread::Refused(Refused { refusal, .. }) => End::Refused(refusal),
+        }
+    }
+}
+
+// What is left of a listing: all of it, the lines from a place of the stream on, or nothing. It is no Option, since `Nothing` is a state that a listing
+// comes to, and no answer in which a place is missing.
+#[derive(Clone, Copy, Debug, PartialEq, Eq)]
 pub enum Left {
     All,
     From(usize),
@@ -43,54 +66,34 @@ pub enum Left {
 }
 
 // How many bytes were written, and what is left.
-#[derive(Clone, Copy)]
+#[derive(Clone, Copy, Debug, PartialEq, Eq)]
 pub struct Filled {
     pub count: usize,
     pub left: Left,
 }
 
-// What stands at a place of a stream.
-pub fn step_at(mode: u8, stream: &[u8], at: usize) -> Step
-    ensures { step_of result ≡ step_at (rules_of mode) stream.now at }
+// What stands at a place of a stream: a frame's message and its bytes, or how the stream ends.
+pub fn step_at(mode: u8, stream: &[u8], at: usize) -> Result<(Message, usize), End>
+    ensures { step_of (step_told result) ≡ step_at (rules_of mode) stream.now at }
 {
     if stream.len() <= at {
-        return Step::Whole;
+        return Err(End::Whole);
     }
-    match decode::decode(mode, &stream[at..]) {
-        Decoded::Record(message, bytes) => Step::Frame(message, bytes),
-        Decoded::NeedMore => Step::NeedMore,
-        Decoded::Refused(number, _) => Step::Refused(number),
-    }
+    Ok(decode::decode(mode, &stream[at..])?)
 }
 
-// What an input says whose digit names a mode, with `count` bytes behind it.
-fn opened(mode: u8, count: usize) -> Opening
-    ensures { result ≡ sized mode count }
+// The mode that an input's first byte names. It is tested first, and then how many bytes follow it.
+pub fn opening_of(input: &[u8]) -> Result<Mode, BadInput>
+    ensures { opening_told result ≡ opening_of input.now }
 {
-    if MOST < count {
-        return Opening::Oversize;
+    let [digit, stream @ ..] = input else {
+        return Err(BadInput::NoMode);
+    };
+    let mode = Mode::try_from(digit.wrapping_sub(b'0'))?;
+    if MOST < stream.len() {
+        return Err(BadInput::Oversize);
     }
-    Opening::Mode(mode)
-}
-
-// The mode is tested first, and then how many bytes follow it.
-pub fn opening_of(input: &[u8]) -> Opening
-    ensures { result ≡ opening_of input.now }
-{
-    if input.len() == 0 {
-        return Opening::NoMode;
-    }
-    let count = input.len() - 1;
-    let digit = input[0];
-    match digit {
-        b'0' => opened(0, count),
-        b'1' => opened(1, count),
-        b'2' => opened(2, count),
-        b'3' => opened(3, count),
-        b'4' => opened(4, count),
-        b'5' => opened(5, count),
-        _ => Opening::NoMode,
-    }
+    Ok(mode)
 }
 
 // Where a line ends in the output, and what is left after it.
@@ -100,40 +103,29 @@ struct Line {
     left: Left,
 }
 
+impl Line {
+    // A line after which nothing is left.
+    fn last(end: usize) -> Line
+        ensures { result ≡ record { end = end; left = L.Nothing } }
+    {
+        Line {
+            end,
+            left: Left::Nothing,
+        }
+    }
+}
+
 // The line at a place of a stream.
-fn put_step(mode: u8, stream: &[u8], place: usize, out: &mut [u8], at: usize) -> Line
+fn put_step(mode: Mode, stream: &[u8], place: usize, out: &mut [u8], at: usize) -> Line
     requires { at + 64 ≤ length out.old }
-    ensures { Lined (step_line place (step_at (rules_of mode) stream.now place)) out.old at out.new result }
+    ensures { Lined (step_line place (step_at (rules_of (mode_number mode)) stream.now place)) out.old at out.new result }
 {
-    match step_at(mode, stream, place) {
-        Step::Frame(message, bytes) => {
-            let end = put_frame(out, at, place, message, bytes);
-            Line {
-                end,
-                left: Left::From(place + bytes),
-            }
-        }
-        Step::Whole => {
-            let end = put_whole(out, at, place);
-            Line {
-                end,
-                left: Left::Nothing,
-            }
-        }
-        Step::NeedMore => {
-            let end = put_need_more(out, at, place);
-            Line {
-                end,
-                left: Left::Nothing,
-            }
-        }
-        Step::Refused(number) => {
-            let end = put_refused(out, at, number, place);
-            Line {
-                end,
-                left: Left::Nothing,
-            }
-        }
+    match step_at(mode as u8, stream, place) {
+        Ok((message, bytes)) => Line {
+            end: put_frame(out, at, place, message, bytes),
+            left: Left::From(place + bytes),
+        },
+        Err(end) => Line::last(put_end(out, at, end, place)),
     }
 }
 
@@ -143,24 +135,8 @@ fn put_from(input: &[u8], place: usize, out: &mut [u8], at: usize) -> Line
     ensures { Lined (line_from (opening_of input.now) (drop 1 input.now) place) out.old at out.new result }
 {
     match opening_of(input) {
-        Opening::Mode(mode) => {
-            let first: usize = 1;
-            put_step(mode, &input[first..], place, out, at)
-        }
-        Opening::NoMode => {
-            let end = put_bytes(out, at, b"end mode 0\n");
-            Line {
-                end,
-                left: Left::Nothing,
-            }
-        }
-        Opening::Oversize => {
-            let end = put_bytes(out, at, b"end oversize 0\n");
-            Line {
-                end,
-                left: Left::Nothing,
-            }
-        }
+        Ok(mode) => put_step(mode, &input[1..], place, out, at),
+        Err(bad) => Line::last(put_bad(out, at, bad)),
     }
 }
 
@@ -170,18 +146,12 @@ fn put_line(input: &[u8], left: Left, out: &mut [u8], at: usize) -> Line
     ensures { Lined (line_of input.now left) out.old at out.new result }
 {
     match left {
-        Left::All => {
-            let end = put_bytes(out, at, b"at kind bytes\n");
-            Line {
-                end,
-                left: Left::From(0),
-            }
-        }
-        Left::From(place) => put_from(input, place, out, at),
-        Left::Nothing => Line {
-            end: at,
-            left: Left::Nothing,
+        Left::All => Line {
+            end: put_bytes(out, at, b"at kind bytes\n"),
+            left: Left::From(0),
         },
+        Left::From(place) => put_from(input, place, out, at),
+        Left::Nothing => Line::last(at),
     }
 }
 
@@ -189,14 +159,12 @@ fn put_line(input: &[u8], left: Left, out: &mut [u8], at: usize) -> Line
 pub fn fill(input: &[u8], left: Left, out: &mut [u8]) -> Filled
     ensures { Fills (lines_of (length out.old / 64) input.now left) out.old out.new result }
 {
-    let mut left = left;
-    let mut at = 0;
-    let mut lines = out.len() / 64;
-    while 0 < lines {
-        let line = put_line(input, left, out, at);
-        at = line.end;
-        left = line.left;
-        lines -= 1;
+    let mut line = Line { end: 0, left };
+    for _ in 0..out.len() / 64 {
+        line = put_line(input, line.left, out, line.end);
     }
-    Filled { count: at, left }
+    Filled {
+        count: line.end,
+        left: line.left,
+    }
 }

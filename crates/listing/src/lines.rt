@@ -1,11 +1,12 @@
 // The lines of a listing. Each has room for the longest.
 ghost use Rattle.std.specs.Prelude.{◌+◌, ◌≤◌, ◌++◌, length};
-ghost use Rattle.protocol.specs.Stream.{need_more, refused, whole};
-ghost use Rattle.listing.specs.Listing.{end_line, frame_line, newline};
+ghost use Rattle.protocol.specs.Stream.{refused};
+ghost use Rattle.listing.specs.Listing.{bad_line, end_line, end_told, frame_line, newline};
 ghost use Rattle.listing.specs.Text.{Wrote, decimal};
 
 use crate::names::put_name;
 use crate::text::put_number;
+use crate::{BadInput, End};
 use protocol::Message;
 use writers::{put_byte, put_bytes};
 
@@ -34,23 +35,20 @@ fn put_words(out: &mut [u8], at: usize, words: &[u8], place: usize) -> usize
     put_byte(out, at, b'\n')
 }
 
-pub fn put_whole(out: &mut [u8], at: usize, place: usize) -> usize
+// How a stream ends, and the place where the unread frame begins.
+pub fn put_end(out: &mut [u8], at: usize, end: End, place: usize) -> usize
     requires { at + 64 ≤ length out.old }
-    ensures wrote { Wrote out.old at (end_line whole place) out.new result }
+    ensures wrote { Wrote out.old at (end_line (end_told end) place) out.new result }
     ensures upper_bound { result ≤ at + 64 }
 {
-    put_words(out, at, b"end whole ", place)
+    match end {
+        End::Whole => put_words(out, at, b"end whole ", place),
+        End::NeedMore => put_words(out, at, b"end need-more ", place),
+        End::Refused(refusal) => put_refused(out, at, refusal.number(), place),
+    }
 }
 
-pub fn put_need_more(out: &mut [u8], at: usize, place: usize) -> usize
-    requires { at + 64 ≤ length out.old }
-    ensures wrote { Wrote out.old at (end_line need_more place) out.new result }
-    ensures upper_bound { result ≤ at + 64 }
-{
-    put_words(out, at, b"end need-more ", place)
-}
-
-pub fn put_refused(out: &mut [u8], at: usize, number: u8, place: usize) -> usize
+fn put_refused(out: &mut [u8], at: usize, number: u8, place: usize) -> usize
     requires { at + 64 ≤ length out.old }
     ensures wrote { Wrote out.old at (end_line (refused number) place) out.new result }
     ensures upper_bound { result ≤ at + 64 }
@@ -60,4 +58,16 @@ pub fn put_refused(out: &mut [u8], at: usize, number: u8, place: usize) -> usize
     let at = put_byte(out, at, b' ');
     let at = put_number(out, at, place);
     put_byte(out, at, b'\n')
+}
+
+// What is wrong with an input.
+pub fn put_bad(out: &mut [u8], at: usize, bad: BadInput) -> usize
+    requires { at + 64 ≤ length out.old }
+    ensures wrote { Wrote out.old at (bad_line bad) out.new result }
+    ensures upper_bound { result ≤ at + 64 }
+{
+    match bad {
+        BadInput::NoMode => put_bytes(out, at, b"end mode 0\n"),
+        BadInput::Oversize => put_bytes(out, at, b"end oversize 0\n"),
+    }
 }

@@ -10,6 +10,7 @@ use protocol::tables::letters_in;
 use protocol::{Message, kinds};
 use writers::put_bytes;
 
+// One match of all kinds would be longer than forty lines, so those whose record holds nothing have a function of their own.
 fn name_of(message: Message) -> [u8; 20]
     ensures { result ≡ filled 20 (name_of message) }
 {

@@ -1,17 +1,18 @@
 -- `listing::fill` meets its contract: the invariant says which lines are left to write.
-use mathlib.Core.Path.{refl}
-use native.Mathlib.Omega.{arith}
-use borrow.Author.Rules.{rules}
+use Rattle.std.proofs.Common.{◌≡◌, ◌+◌, ◌-◌, ◌/◌, length, refl, arith}
 use Rattle.listing.proofs.Filling.{next, last}
 use Rattle.listing.proofs.fill.Goals as goal
 
-pub loop-lines-init : goal.loop-lines-init
-loop-lines-init c = (search rules, search rules, record { bytes = refl; count = omega arith; after = refl })
+pub loop-init : goal.loop-init
+loop-init c =
+    let all : length c.args.out.now / 64 - 0 ≡ length c.args.out.now / 64 = omega arith in
+    (omega arith, rw all (record { bytes = refl; count = omega arith; after = refl }))
 
-pub loop-lines-preserved : goal.loop-lines-preserved
-loop-lines-preserved c = let q = c.loop-lines in
-    let l = c.put_line-line.ensures in
-    (omega (arith, l.short), search rules, next (omega arith) q.invariant.2 l)
+pub loop-preserved : goal.loop-preserved
+loop-preserved c =
+    let line = c.put_line-line.ensures in
+    let less : length c.args.out.now / 64 - (c.loop.counter + 1) ≡ length c.args.out.now / 64 - c.loop.counter - 1 = omega arith in
+    (omega (arith, line.short), rw less (next (omega arith) c.loop.invariant.1 line))
 
 pub returns : goal.returns
-returns c = let q = c.loop-lines in last (omega arith) q.invariant.2
+returns c = last (omega arith) c.loop.invariant.1

@@ -1,38 +1,31 @@
 -- `listing::opening_of` meets its contract: each digit is a mode's, and any other byte none's.
-use mathlib.Core.Path.{refl, ◌∙◌}
-use native.Mathlib.Omega.{arith}
-use borrow.Author.Rules.{rules}
-use Rattle.protocol.specs.Kinds.{find, frontend, backend, cancel, tls_answer, gss_answer, first_packet}
-use Rattle.listing.proofs.Openings.{empty, named, unnamed}
+use Rattle.std.proofs.Common.{◌-◌, ◌<◌, ◌≤◌, length, length-take, length-drop, arith}
+use borrow.Author.Tests.{lt-ltb, le-ltb}
+use Rattle.std.proofs.lemmas.Result.{err_from_is_err_and}
+use Rattle.listing.specs.Listing.{sized}
+use Rattle.listing.proofs.Openings.{empty, named_by, unnamed_by}
 use Rattle.listing.proofs.opening_of.Goals as goal
 
-pub returns-then-input-eq0 : goal.returns-then-input-eq0
-returns-then-input-eq0 c = empty _ c.if-input-eq0.true
-
-pub returns-in-48 : goal.returns-in-48
-unfolding find frontend backend cancel tls_answer gss_answer first_packet
-returns-in-48 c = c.opened.ensures ∙ named c.args.input.now frontend 48 (omega arith) c.in-48.is refl
-
-pub returns-in-49 : goal.returns-in-49
-unfolding find frontend backend cancel tls_answer gss_answer first_packet
-returns-in-49 c = c.opened-in-49.ensures ∙ named c.args.input.now backend 49 (omega arith) c.in-49.is refl
-
-pub returns-in-50 : goal.returns-in-50
-unfolding find frontend backend cancel tls_answer gss_answer first_packet
-returns-in-50 c = c.opened-in-50.ensures ∙ named c.args.input.now cancel 50 (omega arith) c.in-50.is refl
-
-pub returns-in-51 : goal.returns-in-51
-unfolding find frontend backend cancel tls_answer gss_answer first_packet
-returns-in-51 c = c.opened-in-51.ensures ∙ named c.args.input.now tls_answer 51 (omega arith) c.in-51.is refl
-
-pub returns-in-52 : goal.returns-in-52
-unfolding find frontend backend cancel tls_answer gss_answer first_packet
-returns-in-52 c = c.opened-in-52.ensures ∙ named c.args.input.now gss_answer 52 (omega arith) c.in-52.is refl
-
-pub returns-in-53 : goal.returns-in-53
-unfolding find frontend backend cancel tls_answer gss_answer first_packet
-returns-in-53 c = c.opened-in-53.ensures ∙ named c.args.input.now first_packet 53 (omega arith) c.in-53.is refl
-
 pub returns-in_default : goal.returns-in_default
-unfolding find frontend backend cancel tls_answer gss_answer first_packet
-returns-in_default c = unnamed c.args.input.now (omega arith) (search rules)
+returns-in_default c = empty _ (omega (arith, c.in_default.len_below))
+
+pub returns-in_err-mode : goal.returns-in_err-mode
+returns-in_err-mode c =
+    let p = err_from_is_err_and c.from_residual.result c.from_residual.ensures.1 in
+    rw (p.1, p.2) (unnamed_by _ (omega (arith, c.in-len1-up.len_at_least)) (omega (arith, c.type_inv.input 0)) c.in_err-mode.ensures)
+
+pub returns-then-stream-gt-MOST : goal.returns-then-stream-gt-MOST
+unfolding sized
+returns-then-stream-gt-MOST c =
+    let s = c.args.input.now in
+    let named = named_by s c.in_ok-mode.mode (omega (arith, c.in-len1-up.len_at_least)) (omega (arith, c.type_inv.input 0)) c.in_ok-mode.ensures in
+    let many : 65536 < length s - 1 = omega (arith, simp (length-take, length-drop) at c.if-stream-gt-MOST.true) in
+    rw (lt-ltb 65536 (length s - 1) many) at named
+
+pub returns : goal.returns
+unfolding sized
+returns c =
+    let s = c.args.input.now in
+    let named = named_by s c.in_ok-mode.mode (omega (arith, c.in-len1-up.len_at_least)) (omega (arith, c.type_inv.input 0)) c.in_ok-mode.ensures in
+    let few : length s - 1 ≤ 65536 = omega (arith, simp (length-take, length-drop) at c.if-stream-gt-MOST.false) in
+    rw (le-ltb 65536 (length s - 1) few) at named
