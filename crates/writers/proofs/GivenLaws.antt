@@ -1,9 +1,12 @@
 -- Arguments of which a part may be no content: the body is made of that part, where there is one.
-use Prim.Native.Nat.{ℕ}
+use Prim.Native.Nat.{ℕ, ◌-◌, ◌≤◌}
 use mathlib.Core.Bool.{Bool, true, false, cond, ◌&&◌}
 use mathlib.Core.List.{List, ◌∷◌}
 use mathlib.Core.Option.{Option, some, none, map}
 use mathlib.Core.Path.{◌≡◌, refl, sym}
+use native.Mathlib.Omega.{arith}
+use borrow.Author.Tests.{eqb-true, eqb-false, eq-eqb, ne_eqb}
+use lib.Dec.{eqb}
 use lib.ListN.{length}
 use Rattle.protocol.specs.Encode.{one_before}
 use Rattle.protocol.specs.Kinds.{Envelope, Kind, Mode}
@@ -31,6 +34,14 @@ pub some_first : {A : Type 0} (x : A) (t : Bool) (o : Option (List A)) → is_so
 some_first x true (some rest) = refl
 some_first x true none = refl
 some_first x false o = refl
+
+-- all bytes are given away exactly where none is left
+pub spent : (left n : ℕ) → left ≤ n → eqb (n - left) n ≡ eqb left 0
+spent left n h = by (eqb left 0) refl
+  where
+    by : (t : Bool) → eqb left 0 ≡ t → eqb (n - left) n ≡ t
+    by true e = let k : left ≡ 0 = eqb-true left 0 e in eq-eqb (n - left) n (omega arith)
+    by false e = ne_eqb (n - left) n (λ q. eqb-false left 0 e (omega (arith, q)))
 
 -- ---- the whole body
 

@@ -1,23 +1,20 @@
 -- Fields: how long their bytes are, whether they can be written, and a list's bytes at each turn of a loop.
-use Prim.Native.Nat.{ℕ, ◌+◌, ◌*◌, ◌<◌, ◌^◌}
+use Prim.Native.Nat.{ℕ, ◌+◌, ◌*◌}
 use mathlib.Core.Bool.{true, and-true}
-use mathlib.Core.List.{List, [], ◌∷◌, ◌++◌, append-nil}
-use mathlib.Core.Path.{◌≡◌, refl, ap, ◌∙◌}
+use mathlib.Core.List.{List, [], ◌∷◌, append-nil}
+use mathlib.Core.Path.{◌≡◌, refl}
 use native.Mathlib.Omega.{arith}
 use lib.Dec.{leb}
-use lib.IntN.{ℤ, pos}
-use lib.ListN.{length, get_or, drop, length-append}
-use lib.Signed.{mag}
-use mir.Syntax.{w16}
-use mir.Val.{hbits, to_z, of_z}
+use lib.IntN.{ℤ}
+use lib.ListN.{length, length-append}
 use Rattle.protocol.specs.declared.Rules.{Rules}
 use Rattle.protocol.specs.Bytes.{no_zero, is_one_of, be, bits_of}
 use Rattle.protocol.specs.Each.{bytes_of_each, able_each}
 use Rattle.protocol.specs.Encode.{items}
 use Rattle.protocol.specs.Fields.{Count, most, signed, one_of, rest, one, able, bytes, atom_bytes, atom_able, item_bytes, item_able, items_bytes, items_able}
 use Rattle.protocol.specs.Kinds.{string, oid, format, oids, formats}
-use Rattle.protocol.proofs.Basics.{length-be, back}
-use Rattle.writers.proofs.Laws.{drop_more}
+use Rattle.protocol.proofs.Basics.{length-be}
+use Rattle.writers.specs.Writing.{joined}
 
 pub length-items : {A : Type 0} (xs : List A) → length (items xs) ≡ length xs
 length-items [] = refl
@@ -25,9 +22,10 @@ length-items (x ∷ xs) = omega (arith, length-items xs)
 
 -- ---- numbers of four bytes
 
-pub words_more : (xs : List ℕ) (i : ℕ) → i < length xs → items_bytes oid (items (drop i xs)) ≡ be 4 (get_or xs i 0) ++ items_bytes oid (items (drop (i + 1) xs))
+pub words_are : (xs : List ℕ) → items_bytes oid (items xs) ≡ joined (be 4) xs
 unfolding items_bytes item_bytes bytes_of_each atom_bytes
-words_more xs i h = rw (drop_more xs i 0 h, append-nil (be 4 (get_or xs i 0))) refl
+words_are [] = refl
+words_are (x ∷ xs) = rw (append-nil (be 4 x), words_are xs) refl
 
 pub length_words : (xs : List ℕ) → length (items_bytes oid (items xs)) ≡ 4 * length xs
 unfolding items_bytes item_bytes bytes_of_each atom_bytes be
@@ -39,15 +37,12 @@ unfolding items_able item_able able_each atom_able
 able_words rules [] = refl
 able_words rules (x ∷ xs) = able_words rules xs
 
--- ---- signed numbers of two bytes; b is the bits of the one at i, in the words of the code
+-- ---- signed numbers of two bytes
 
-pub halves_more : (zs : List ℤ) (i : ℕ) {b : ℕ} → i < length zs → mag (get_or zs i (pos 0)) < 2 ^ hbits w16
-    → b ≡ bits_of 2 (to_z w16 (of_z w16 (get_or zs i (pos 0))))
-    → items_bytes format (items (drop i zs)) ≡ be 2 b ++ items_bytes format (items (drop (i + 1) zs))
+pub halves_are : (zs : List ℤ) → items_bytes format (items zs) ≡ joined (λ z. be 2 (bits_of 2 z)) zs
 unfolding items_bytes item_bytes bytes_of_each atom_bytes
-halves_more zs i {b} h small e =
-    let f : b ≡ bits_of 2 (get_or zs i (pos 0)) = e ∙ ap (bits_of 2) (back w16 (get_or zs i (pos 0)) small) in
-    rw (drop_more zs i (pos 0) h, f, append-nil (be 2 (bits_of 2 (get_or zs i (pos 0))))) refl
+halves_are [] = refl
+halves_are (z ∷ zs) = rw (append-nil (be 2 (bits_of 2 z)), halves_are zs) refl
 
 pub length_halves : (zs : List ℤ) → length (items_bytes format (items zs)) ≡ 2 * length zs
 unfolding items_bytes item_bytes bytes_of_each atom_bytes be

@@ -1,10 +1,10 @@
 -- Writers that look for their room: what the test tells, and one write after the other.
-use Prim.Native.Nat.{ℕ, ◌+◌, ◌-◌, ◌≤◌, ◌<◌}
+use Prim.Native.Nat.{ℕ, ◌+◌, ◌≤◌}
 use mathlib.Core.Bool.{Bool, true, false, ◌&&◌, true≢false}
 use mathlib.Core.List.{List, [], ◌++◌}
 use mathlib.Core.Path.{◌≡◌, refl, ap, ◌∙◌, sym}
 use native.Mathlib.Omega.{arith}
-use borrow.Author.Tests.{leb-true, leb-false, le-leb, lt-leb}
+use borrow.Author.Tests.{leb-true, le-leb}
 use lib.Dec.{leb}
 use lib.ListN.{length}
 use Rattle.protocol.specs.Kinds.{large_frame}
@@ -12,31 +12,27 @@ use Rattle.writers.specs.Writing.{Wrote, Put}
 use Rattle.protocol.proofs.Basics.{and_left, and_right}
 use Rattle.writers.proofs.Laws.{◌then◌, nothing, length-write}
 
--- the test, as the code makes it
-pub less : (p n l : ℕ) → p ≤ l → leb n (l - p) ≡ leb (p + n) l
-less p n l h = by (leb n (l - p)) refl
-  where
-    by : (t : Bool) → leb n (l - p) ≡ t → t ≡ leb (p + n) l
-    by true e = let k : n ≤ l - p = leb-true _ _ e in sym (le-leb (p + n) l (omega arith))
-    by false e = let k : l - p < n = leb-false _ _ e in sym (lt-leb (p + n) l (omega arith))
-
+-- what the test tells
 pub has_room : (may : Bool) (p n : ℕ) {l : ℕ} {r : Bool} → r ≡ may && leb (p + n) l → r ≡ true → (may ≡ true) × (p + n ≤ l)
 has_room may p n {l} e t = let f = sym e ∙ t in (and_left may (leb (p + n) l) f, leb-true _ _ (and_right may f))
 
-module _ {may r : Bool} {d : List ℕ} {p n : ℕ} (e : r ≡ may && leb (p + n) (length d)) where
-  pub put : {xs out : List ℕ} {next : ℕ} → r ≡ true → Wrote d p xs n out next → Put may d p xs n out next
+module _ {r : Bool} {d : List ℕ} {p n : ℕ} (e : r ≡ leb (p + n) (length d)) where
+  pub put : {xs out : List ℕ} {next : ℕ} → r ≡ true → Wrote d p xs n out next → Put true d p xs n out next
   put t w = record {
     fits = λ _ _. w;
     short = λ f. absurd (true≢false (sym t ∙ e ∙ f));
     near = omega (arith, w.place);
   }
 
-  pub kept : {xs : List ℕ} → r ≡ false → Put may d p xs n d p
+  pub kept : {xs : List ℕ} → r ≡ false → Put true d p xs n d p
   kept f = record {
-    fits = λ m h. absurd (true≢false (sym (rw (m, le-leb (p + n) (length d) h) refl) ∙ sym e ∙ f));
+    fits = λ _ h. absurd (true≢false (sym (le-leb (p + n) (length d) h) ∙ sym e ∙ f));
     short = λ _. (refl, refl);
     near = omega arith;
   }
+
+pub put_as : {may : Bool} {d bs xs out : List ℕ} {p n m next : ℕ} → Put may d p bs n out next → bs ≡ xs → n ≡ m → Put may d p xs m out next
+put_as w e f = rw (← e, ← f) w
 
 -- ---- writes in a row: there is room for all of them
 

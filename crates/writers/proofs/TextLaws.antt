@@ -8,7 +8,7 @@ use native.Mathlib.Omega.{arith}
 use borrow.Author.Tests.{leb-true, eq-eqb, ne_eqb, eqb-true}
 use lib.Dec.{leb, eqb}
 use lib.ListN.{length, get_or, take, drop, length-append, length-drop, take-append-drop}
-use lib.Seq.{length-take-le, drop-drop}
+use lib.Seq.{length-take-le, drop-drop, take_all}
 use Rattle.protocol.specs.declared.Rules.{Rules}
 use Rattle.protocol.specs.Bytes.{no_zero}
 use Rattle.protocol.specs.Each.{able_each, bytes_of_each}
@@ -17,7 +17,7 @@ use Rattle.protocol.specs.Fields.{ItemContent, able, bytes, atom_able, atom_byte
 use Rattle.protocol.specs.Kinds.{pair, pairs}
 use Rattle.protocol.proofs.Basics.{none-some, and_left, and_right}
 use Rattle.writers.specs.Given.{is_some, named}
-use Rattle.writers.proofs.GivenLaws.{first, some_first}
+use Rattle.writers.proofs.GivenLaws.{first, some_first, spent}
 use Rattle.writers.proofs.Laws.{drop_more, drop-end}
 
 -- ---- when there are strings
@@ -44,6 +44,10 @@ text_end ns bs i j h k = rw (drop-end ns i h) (by (drop j bs) refl)
     by : (rest : List ℕ) → drop j bs ≡ rest → is_some (texts_given [] rest) ≡ eqb j (length bs)
     by [] e = sym (eq-eqb j (length bs) (omega (arith, ap length e, length-drop j bs)))
     by (x ∷ xs) e = sym (ne_eqb j (length bs) (λ q. omega (arith, ap length e, length-drop j bs)))
+
+-- where the code knows how many bytes are left
+pub text_spent : (ns bs : List ℕ) (i left : ℕ) → length ns ≤ i → left ≤ length bs → is_some (texts_given (drop i ns) (drop (length bs - left) bs)) ≡ eqb left 0
+text_spent ns bs i left h k = text_end ns bs i (length bs - left) h (omega arith) ∙ spent left (length bs) k
 
 pub text_over : (ns bs : List ℕ) (i j : ℕ) → length ns ≤ i → j ≤ length bs → is_some (texts_given (drop i ns) (drop j bs)) ≡ true → j ≡ length bs
 text_over ns bs i j h k is = eqb-true _ _ (sym (text_end ns bs i j h k) ∙ is)
@@ -81,21 +85,20 @@ zero_parts n bs = ap no_zero (sym (take-append-drop n bs)) ∙ zero_append (take
 
 -- ---- names and values, by the lengths
 
--- at the name's length that the code reads
-pub named_more : (ns : List ℕ) (i : ℕ) → i + 1 < length ns → named (drop i ns) ≡ not (eqb (get_or ns i 0) 0) && named (drop (i + 2) ns)
+-- at the name that the code reads, the first of those that are left
+pub named_more : (ns : List ℕ) → 2 ≤ length ns → named ns ≡ not (eqb (get_or ns 0 0) 0) && named (take (length ns - 2) (drop 2 ns))
 unfolding named
-named_more ns i h =
-    let e : (i + 1) + 1 ≡ i + 2 = omega arith in
-    rw (drop_more ns i 0 (omega arith), drop_more ns (i + 1) 0 h, e) refl
+named_more [] h = absurd (omega arith)
+named_more (n ∷ []) h = absurd (omega arith)
+named_more (n ∷ v ∷ ns) h =
+    let e : suc (suc (length ns)) - 2 ≡ length ns = omega arith in
+    rw (e, take_all (length ns) ns (omega arith)) refl
 
-pub named_end : (ns : List ℕ) (i : ℕ) → length ns ≤ i + 1 → i ≤ length ns → named (drop i ns) ≡ eqb i (length ns)
+pub named_end : (ns : List ℕ) → length ns < 2 → named ns ≡ eqb (length ns) 0
 unfolding named
-named_end ns i h k = by (drop i ns) refl
-  where
-    by : (rest : List ℕ) → drop i ns ≡ rest → named rest ≡ eqb i (length ns)
-    by [] e = sym (eq-eqb i (length ns) (omega (arith, ap length e, length-drop i ns)))
-    by (x ∷ []) e = sym (ne_eqb i (length ns) (λ q. omega (arith, ap length e, length-drop i ns)))
-    by (x ∷ y ∷ xs) e = absurd (omega (arith, ap length e, length-drop i ns))
+named_end [] h = refl
+named_end (n ∷ []) h = refl
+named_end (n ∷ v ∷ ns) h = absurd (omega arith)
 
 texts_many : (ns bs : List ℕ) (ts : List (List ℕ)) → texts_given ns bs ≡ some ts → length ts ≡ length ns
 unfolding texts_given

@@ -5,15 +5,14 @@ use mathlib.Core.List.{List, [], ◌∷◌, ◌++◌, append-nil, append_assoc}
 use mathlib.Core.Option.{some, none}
 use mathlib.Core.Path.{◌≡◌, refl, ap, ◌∙◌, sym}
 use native.Mathlib.Omega.{arith}
-use borrow.Author.Tests.{ltb-true, ltb-false, leb-true, le-leb, eq-eqb, ne_eqb, eqb-true}
+use borrow.Author.Tests.{ltb-false, leb-true, le-leb, eq-eqb, ne_eqb, eqb-true}
 use lib.Dec.{leb, eqb}
 use lib.IntN.{ℤ, pos, negsuc}
 use lib.ListN.{length, get_or, take, drop, length-append, length-drop}
 use lib.Seq.{length-take-le, drop-drop}
 use lib.Signed.{lt_z, mag}
 use mir.Syntax.{w32}
-use mir.Val.{SFits, hbits, to_z, of_z}
-use mir.ValLaws.{to_z-of_z}
+use mir.Val.{hbits, to_z, of_z}
 use Rattle.protocol.specs.declared.Rules.{Rules}
 use Rattle.protocol.specs.Bytes.{be, bits_of}
 use Rattle.protocol.specs.Each.{able_each, bytes_of_each}
@@ -22,19 +21,8 @@ use Rattle.protocol.specs.Fields.{ItemContent, Count, most, able, bytes, atom_ab
 use Rattle.protocol.specs.Kinds.{nullable, values}
 use Rattle.protocol.proofs.Basics.{none-some, and_left, and_right, length-be, back}
 use Rattle.writers.specs.Given.{is_some, size_of}
-use Rattle.writers.proofs.GivenLaws.{first, some_first}
+use Rattle.writers.proofs.GivenLaws.{first, some_first, spent}
 use Rattle.writers.proofs.Laws.{drop_more, drop-end}
-
--- ---- the size of a value
-
-pub size_low : (x : ℤ) → SFits w32 x → lt_z (to_z w32 (of_z w32 x)) (pos 0) ≡ true → size_of x ≡ 0
-size_low (pos n) f t = let h : n < 0 = ltb-true n 0 (ap (λ (z : ℤ). lt_z z (pos 0)) (sym (to_z-of_z w32 (pos n) f)) ∙ t) in absurd (omega arith)
-size_low (negsuc n) f t = refl
-
-pub size_high : (x : ℤ) → SFits w32 x → lt_z (to_z w32 (of_z w32 x)) (pos 0) ≡ false → size_of x ≡ bits_of 4 x
-unfolding bits_of
-size_high (pos n) f t = refl
-size_high (negsuc n) f t = absurd (true≢false (ap (λ (z : ℤ). lt_z z (pos 0)) (sym (to_z-of_z w32 (negsuc n) f)) ∙ t))
 
 -- ---- when there are values
 
@@ -87,6 +75,10 @@ value_end zs bs i j h k = rw (drop-end zs i h) (by (drop j bs) refl)
     by : (rest : List ℕ) → drop j bs ≡ rest → is_some (values_given [] rest) ≡ eqb j (length bs)
     by [] e = sym (eq-eqb j (length bs) (omega (arith, ap length e, length-drop j bs)))
     by (x ∷ xs) e = sym (ne_eqb j (length bs) (λ q. omega (arith, ap length e, length-drop j bs)))
+
+-- where the code knows how many bytes are left
+pub value_spent : (zs : List ℤ) (bs : List ℕ) (i left : ℕ) → length zs ≤ i → left ≤ length bs → is_some (values_given (drop i zs) (drop (length bs - left) bs)) ≡ eqb left 0
+value_spent zs bs i left h k = value_end zs bs i (length bs - left) h (omega arith) ∙ spent left (length bs) k
 
 pub value_over : (zs : List ℤ) (bs : List ℕ) (i j : ℕ) → length zs ≤ i → j ≤ length bs → is_some (values_given (drop i zs) (drop j bs)) ≡ true → j ≡ length bs
 value_over zs bs i j h k is = eqb-true _ _ (sym (value_end zs bs i j h k) ∙ is)

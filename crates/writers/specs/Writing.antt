@@ -1,5 +1,5 @@
 -- What a writer does to the output, and the answer that comes before anything is written.
-use Rattle.std.specs.Prelude.{ℕ, ◌+◌, ◌≤◌, Bool, true, false, cond, ◌&&◌, List, [], ◌∷◌, ◌≡◌, leb, ltb, length, set}
+use Rattle.std.specs.Prelude.{ℕ, ◌+◌, ◌≤◌, Bool, true, false, cond, ◌&&◌, List, [], ◌∷◌, ◌++◌, ◌≡◌, leb, ltb, length, set}
 use Rattle.std.proofs.Math.Option.{Option, some}
 use Rattle.protocol.specs.Encoded as N
 use Rattle.protocol.specs.Encoded.{Encoded}
@@ -15,6 +15,11 @@ largest = 18446744073709551615
 abbrev pub write : List ℕ → ℕ → List ℕ → List ℕ
 write d p [] = d
 write d p (x ∷ xs) = write (set d p x) (p + 1) xs
+
+-- the bytes of each element, one after the other
+abbrev pub joined : {A : Type 0} → (A → List ℕ) → List A → List ℕ
+joined f [] = []
+joined f (x ∷ xs) = f x ++ joined f xs
 
 -- out is d with the n bytes xs stored from p on, and next is the place after them
 pub record Wrote (d : List ℕ) (p : ℕ) (xs : List ℕ) (n : ℕ) (out : List ℕ) (next : ℕ) : Type 0 where

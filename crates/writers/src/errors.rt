@@ -9,8 +9,5 @@ use crate::texts::texts_given;
 pub fn errors_given(codes: &[u8], lengths: &[u32], joined: &[u8]) -> bool
     ensures { result ≡ is_some (error_fields_given codes.now lengths.now joined.now) }
 {
-    if codes.len() != lengths.len() {
-        return false;
-    }
-    texts_given(lengths, joined)
+    codes.len() == lengths.len() && texts_given(lengths, joined)
 }

@@ -8,29 +8,27 @@ ghost use Rattle.writers.specs.Given.{is_some};
 pub fn texts_given(lengths: &[u32], joined: &[u8]) -> bool
     ensures { result ≡ is_some (texts_given lengths.now joined.now) }
 {
-    let mut i = 0;
-    let mut j = 0;
-    while i < lengths.len() {
-        let k = lengths[i] as usize;
-        if joined.len() - j < k {
+    let mut left = joined.len();
+    for n in lengths {
+        let n = *n as usize;
+        if left < n {
             return false;
         }
-        j += k;
-        i += 1;
+        left -= n;
     }
-    j == joined.len()
+    left == 0
 }
 
 // Each name has a value, and none is empty.
 pub fn named(lengths: &[u32]) -> bool
     ensures { result ≡ Given.named lengths.now }
 {
-    let mut i = 0;
-    while i + 1 < lengths.len() {
-        if lengths[i] == 0 {
+    let mut rest = lengths;
+    while let [name, _value, more @ ..] = rest {
+        if *name == 0 {
             return false;
         }
-        i += 2;
+        rest = more;
     }
-    i == lengths.len()
+    rest.is_empty()
 }

@@ -7,26 +7,23 @@ ghost use Rattle.writers.specs.Given.{is_some, size_of};
 pub fn size_of(n: i32) -> usize
     ensures { result ≡ size_of n }
 {
-    if n < 0 { 0 } else { n as usize }
+    usize::try_from(n).unwrap_or(0)
 }
 
 // No length is below -1, and they add up to the bytes. Each is taken from the bytes that are left: a sum could pass the largest number.
 pub fn values_given(lengths: &[i32], joined: &[u8]) -> bool
     ensures { result ≡ is_some (values_given lengths.now joined.now) }
 {
-    let mut i = 0;
-    let mut j = 0;
-    while i < lengths.len() {
-        let n = lengths[i];
-        if n < -1 {
+    let mut left = joined.len();
+    for n in lengths {
+        if *n < -1 {
             return false;
         }
-        let k = size_of(n);
-        if joined.len() - j < k {
+        let size = size_of(*n);
+        if left < size {
             return false;
         }
-        j += k;
-        i += 1;
+        left -= size;
     }
-    j == joined.len()
+    left == 0
 }

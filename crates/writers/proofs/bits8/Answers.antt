@@ -1,36 +1,8 @@
--- `writers::bits8` meets its contract.
-use mathlib.Core.Path.{sym}
-use native.Mathlib.Omega.{arith}
+-- `writers::bits8` meets its contract: the library's bits are the format's.
+use mathlib.Core.Path.{refl, ◌∙◌}
 use mir.Syntax.{w8}
-use Rattle.writers.proofs.Signs.{Low, low, High, high}
+use Rattle.writers.proofs.Signs.{bits_are, bits_of_lem}
 use Rattle.writers.proofs.bits8.Goals as goal
 
-pub overflow_sub-result : goal.overflow_sub-result
-overflow_sub-result c =
-    let neg : Low w8 c.args.x = low w8 c.args.x c.ranges.x c.if-x-lt0.true in
-    rw neg.flipped (record { sfits = neg.small })
-
-pub overflow_cast-result : goal.overflow_cast-result
-overflow_cast-result c =
-    let neg : Low w8 c.args.x = low w8 c.args.x c.ranges.x c.if-x-lt0.true in
-    rw neg.again (tt, record { fits = omega (arith, neg.small) })
-
-pub overflow_sub-result-then-x-lt0 : goal.overflow_sub-result-then-x-lt0
-overflow_sub-result-then-x-lt0 c =
-    let neg : Low w8 c.args.x = low w8 c.args.x c.ranges.x c.if-x-lt0.true in
-    rw neg.again (omega (arith, neg.small))
-
-pub overflow_cast-result-else-x-lt0 : goal.overflow_cast-result-else-x-lt0
-overflow_cast-result-else-x-lt0 c =
-    let non : High w8 c.args.x = high w8 c.args.x c.ranges.x c.if-x-lt0.false in
-    rw non.again (tt, record { fits = omega (arith, non.small) })
-
-pub returns-then-x-lt0 : goal.returns-then-x-lt0
-returns-then-x-lt0 c =
-    let neg : Low w8 c.args.x = low w8 c.args.x c.ranges.x c.if-x-lt0.true in
-    rw (neg.again, neg.is 1) (omega (arith, neg.small))
-
-pub returns-else-x-lt0 : goal.returns-else-x-lt0
-returns-else-x-lt0 c =
-    let non : High w8 c.args.x = high w8 c.args.x c.ranges.x c.if-x-lt0.false in
-    rw non.again (sym (non.is 1))
+pub returns : goal.returns
+returns c = bits_of_lem w8 1 c.args.x c.ranges.x (c.cast_unsigned.ensures ∙ bits_are w8 1 refl _)

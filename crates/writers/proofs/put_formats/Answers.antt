@@ -1,20 +1,8 @@
 -- `writers::put_formats` meets its contract.
-use Prim.Native.Nat.{◌+◌, ◌*◌}
-use native.Mathlib.Omega.{arith}
-use borrow.Author.Tests.{leb-true}
-use lib.Dec.{leb}
-use lib.ListN.{length}
-use Rattle.protocol.specs.Fields.{most, unsigned_count}
-use Rattle.writers.proofs.Puts.{has_room, put, kept}
+use Rattle.protocol.specs.Fields.{bytes}
+use Rattle.writers.proofs.Lists.{length-items, halves_are}
 use Rattle.writers.proofs.put_formats.Goals as goal
 
-pub store_formats-requires : goal.store_formats-requires
-store_formats-requires c = let a = c.args in
-    let h = has_room (leb (length a.xs.now) (most unsigned_count)) a.at (2 + 2 * length a.xs.now) c.room.ensures c.if-room.true in
-    (omega (arith, h.1), leb-true _ _ h.0)
-
-pub returns-then-room : goal.returns-then-room
-returns-then-room c = put c.room.ensures c.if-room.true c.store_formats.ensures
-
 pub returns : goal.returns
-returns c = kept c.room.ensures c.if-room.false
+unfolding bytes
+returns c = let xs = c.args.xs.now in rw (length-items xs, halves_are xs) c.put_counted.ensures

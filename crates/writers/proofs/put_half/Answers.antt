@@ -1,15 +1,9 @@
 -- `writers::put_half` meets its contract.
-use mathlib.Core.Bool.{true}
-use native.Mathlib.Omega.{arith}
-use Rattle.writers.proofs.Puts.{has_room, put, kept}
+use mathlib.Core.Path.{ap, ◌∙◌}
+use lib.ListN.{length}
+use Rattle.writers.proofs.Laws.{be2}
+use Rattle.writers.proofs.Puts.{put_as}
 use Rattle.writers.proofs.put_half.Goals as goal
 
-pub store_half-requires : goal.store_half-requires
-store_half-requires c = let a = c.args in
-    omega (arith, (has_room true a.at 2 c.room.ensures c.if-room.true).1)
-
-pub returns-then-room : goal.returns-then-room
-returns-then-room c = put c.room.ensures c.if-room.true c.store_half.ensures
-
 pub returns : goal.returns
-returns c = kept c.room.ensures c.if-room.false
+returns c = put_as c.put_bytes.ensures (c.to_be_bytes.ensures ∙ be2 c.args.x) (ap length c.to_be_bytes.ensures)

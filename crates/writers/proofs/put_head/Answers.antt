@@ -1,19 +1,19 @@
 -- `writers::put_head` meets its contract.
-use mathlib.Core.Bool.{◌&&◌}
-use borrow.Author.Tests.{leb-true}
+use Prim.Native.Nat.{ℕ, ◌+◌, ◌-◌}
+use mathlib.Core.List.{List, ◌∷◌}
+use mathlib.Core.Path.{◌≡◌, ap, ◌∙◌}
+use lib.ListN.{length}
+use native.Mathlib.Omega.{arith}
+use borrow.Author.Tests.{le-leb}
 use Rattle.protocol.specs.Kinds.{large_frame}
-use Rattle.protocol.proofs.Basics.{and_left, and_right}
-use lib.Dec.{leb}
-use Rattle.writers.proofs.Puts.{has_room, put, kept}
+use Rattle.protocol.specs.WellFormed.{header}
+use Rattle.writers.proofs.Laws.{be4}
+use Rattle.writers.proofs.Puts.{put_as}
 use Rattle.writers.proofs.put_head.Goals as goal
 
-pub store_head-requires : goal.store_head-requires
-store_head-requires c = let a = c.args in
-    let h = has_room (leb 5 a.n && leb a.n large_frame) 0 5 c.room.ensures c.if-room.true in
-    (h.1, leb-true _ _ (and_left _ _ h.0), leb-true _ _ (and_right (leb 5 a.n) h.0))
-
-pub returns-then-room : goal.returns-then-room
-returns-then-room c = put c.room.ensures c.if-room.true c.store_head.ensures
-
 pub returns : goal.returns
-returns c = kept c.room.ensures c.if-room.false
+unfolding header
+returns c = let n = c.args.n in
+    let e : 4 + (n - 5) ≡ n - 1 = omega arith in
+    rw (le-leb 5 n (omega arith), le-leb n large_frame (omega arith), e)
+    (put_as c.put_both.ensures (ap (λ (bs : List ℕ). c.args.type_byte ∷ bs) (c.to_be_bytes.ensures ∙ be4 (n - 1))) (omega (arith, ap length c.to_be_bytes.ensures)))

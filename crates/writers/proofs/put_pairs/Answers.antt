@@ -1,15 +1,10 @@
 -- `writers::put_pairs` meets its contract.
-use mathlib.Core.Bool.{true}
-use native.Mathlib.Omega.{arith}
-use Rattle.writers.proofs.Puts.{has_room, put, kept}
+use Rattle.writers.proofs.Laws.{◌then◌, nothing}
+use Rattle.writers.proofs.Puts.{put}
 use Rattle.writers.proofs.put_pairs.Goals as goal
 
-pub store_pairs-requires : goal.store_pairs-requires
-store_pairs-requires c = let a = c.args in
-    omega (arith, (has_room true a.at 18 c.room.ensures c.if-room.true).1)
-
-pub returns-then-room : goal.returns-then-room
-returns-then-room c = put c.room.ensures c.if-room.true c.store_pairs.ensures
-
 pub returns : goal.returns
-returns c = kept c.room.ensures c.if-room.false
+returns c =
+    put c.room.ensures c.if-not-room.false
+    (c.store_word-at.ensures then c.store_half-at.ensures then c.store_word-at-2.ensures then c.store_half-at-2.ensures then c.store_word-at-3.ensures
+    then c.store_half.ensures then nothing)

@@ -1,13 +1,7 @@
 -- The loop of `writers::store_each`.
-use Prim.Native.Nat.{◌+◌, ◌-◌, ◌≤◌}
-use mathlib.Core.Path.{◌≡◌}
-use lib.ListN.{length, drop}
-use Rattle.writers.specs.Writing.{write}
+use Rattle.std.proofs.Common.{◌*◌, take}
+use Rattle.writers.specs.Writing.{joined, Wrote}
 use Rattle.writers.proofs.store_each.Given as goal
 
-abbrev pub invariant-loop-i : goal.invariant-loop-i
-invariant-loop-i l =
-    (l.i ≤ length l.s) × (l.p ≡ l.at + l.i) × (length l.out ≡ length l.initial.out) × (write l.out l.p (drop l.i l.s) ≡ write l.initial.out l.at l.s)
-
-abbrev pub decreases-loop-i : goal.decreases-loop-i
-decreases-loop-i l = length l.s - l.i
+abbrev pub invariant-loop-x : goal.invariant-loop-x
+invariant-loop-x g l = Wrote l.initial.out l.at (joined g.N.Number.bytes (take l.x-index l.xs)) (g.N.Number.WIDTH * l.x-index) l.out l.p

@@ -1,8 +1,8 @@
 -- `writers::store_half` meets its contract.
-use Rattle.protocol.specs.Bytes.{be}
-use Rattle.writers.proofs.Laws.{◌then◌}
+use mathlib.Core.Path.{ap, ◌∙◌}
+use lib.ListN.{length}
+use Rattle.writers.proofs.Laws.{be2, wrote_as}
 use Rattle.writers.proofs.store_half.Goals as goal
 
 pub returns : goal.returns
-unfolding be
-returns c = c.store_byte-at.ensures then c.store_byte.ensures
+returns c = wrote_as c.store_bytes.ensures (c.to_be_bytes.ensures ∙ be2 c.args.x) (ap length c.to_be_bytes.ensures)

@@ -1,8 +1,8 @@
 -- `writers::store_word` meets its contract.
-use Rattle.protocol.specs.Bytes.{be}
-use Rattle.writers.proofs.Laws.{◌then◌}
+use mathlib.Core.Path.{ap, ◌∙◌}
+use lib.ListN.{length}
+use Rattle.writers.proofs.Laws.{be4, wrote_as}
 use Rattle.writers.proofs.store_word.Goals as goal
 
 pub returns : goal.returns
-unfolding be
-returns c = c.store_byte-at.ensures then c.store_byte-at-2.ensures then c.store_byte-at-3.ensures then c.store_byte.ensures
+returns c = wrote_as c.store_bytes.ensures (c.to_be_bytes.ensures ∙ be4 c.args.x) (ap length c.to_be_bytes.ensures)
