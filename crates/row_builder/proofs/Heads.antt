@@ -1,17 +1,19 @@
 -- The head of a row at the room's start, and its last column, as the code finds them.
 use Prim.Native.Nat.{ℕ, ◌+◌, ◌-◌, ◌<◌}
-use mathlib.Core.Bool.{true, false, cond, and-false}
+use Rattle.std.specs.Prelude.{Option, Some, None}
+use Rattle.std.specs.Option.{is_some}
+use mathlib.Core.Bool.{Bool, true, false, cond, and-false}
 use mathlib.Core.List.{List, [], ◌∷◌}
 use mathlib.Core.Path.{◌≡◌, refl, ap, sym, ◌∙◌}
 use native.Mathlib.Omega.{arith}
 use borrow.Author.Tests.{eq-eqb, ne_eqb}
-use denote.Enum.Declared.{tag_of}
 use lib.Dec.{eqb}
 use lib.ListN.{length, take}
 use lib.Seq.{length-take-le}
-use types.Run.{OneOf, miss}
 use Rattle.protocol.specs.declared.List.{List as ListSlot}
 use Rattle.protocol.specs.declared.Rules.{Rules}
+use Rattle.protocol.specs.declared.refusal.Unread.TheVariants as U
+use Rattle.protocol.specs.declared.refusal.Unread.{Unread}
 use Rattle.protocol.specs.Bytes.{number_at, number_from}
 use Rattle.protocol.specs.Decode.{tag_at}
 use Rattle.protocol.specs.Fields.{signed_count}
@@ -20,14 +22,11 @@ use Rattle.protocol.specs.Lines.{line_of}
 use Rattle.protocol.specs.Reading.{Read, got, bad, and_then, pass_items, read_count}
 use Rattle.protocol.specs.Rules.{rules_of}
 use Rattle.protocol.proofs.Basics.{first_chosen, second_chosen, zero_one}
-use Rattle.envelope.specs.Steps.{end_in}
-use Rattle.envelope.specs.declared.Header.TheVariants as H
-use Rattle.envelope.specs.declared.Header.{Header as End}
-use Rattle.envelope.specs.contracts.Header as HT
+use Rattle.envelope.specs.Steps.{end_in, unread, Framed}
+use Rattle.envelope.specs.Header as H
+use Rattle.envelope.specs.Header.{Header as End}
 use Rattle.row_builder.specs.Building.{columns_end, place_of, stands}
 use Rattle.row_builder.specs.Steps.{count_is, ends_at, end_by, headed, last_column_of, walk_by, walk_of}
-use Rattle.row_builder.specs.declared.LastColumn.TheVariants as L
-use Rattle.row_builder.specs.declared.LastColumn.{LastColumn}
 use Rattle.row_builder.specs.declared.Row.{Row}
 use Rattle.row_builder.proofs.Standing.{at_end, headed_fits, stands_is, walk}
 use Rattle.row_builder.proofs.Walks.{pass_split}
@@ -51,37 +50,37 @@ module _ (row : Row) where
     unfolding headed
     end_is h is e = rw (← is, e, and-false (eqb (tag_at typed room) data_row.tag)) refl
 
-    pub no_frame : (h : End) → h ≡ end_in typed (line_of data_row) room → OneOf (1 ∷ 2 ∷ []) (tag_of HT.the_type h) → false ≡ headed row room
-    no_frame (H.Frame end) is o = absurd (miss (1 ∷ 2 ∷ []) 0 tt o)
-    no_frame H.NeedMore is o = end_is H.NeedMore is refl
-    no_frame (H.Refused number place) is o = end_is (H.Refused number place) is refl
+    pub no_frame : (u : Unread) → unread u ≡ end_in typed (line_of data_row) room → false ≡ headed row room
+    no_frame U.NeedMore is = end_is H.NeedMore is refl
+    no_frame (U.Refused r) is = end_is (unread (U.Refused r)) is refl
 
-    pub other_end : {h : End} {end : ℕ} → h ≡ end_in typed (line_of data_row) room → h ≡ H.Frame end → (end ≡ row.size → ⊥) → false ≡ headed row room
-    other_end {h} {end} is f ne = end_is (H.Frame end) (sym f ∙ is) (ne_eqb _ _ ne)
+    module _ {f : List ℕ} (is-frame : Framed (end_in typed (line_of data_row) room) room f) where
+      pub other_end : (length f ≡ row.size → ⊥) → false ≡ headed row room
+      other_end ne = end_is (H.Frame (length f)) (sym is-frame.header) (ne_eqb _ _ ne)
 
-    -- the count decides
-    pub count_decides : {t end : ℕ} {h : End} {r : Read ListSlot} → t ≡ tag_at typed room → t ≡ data_row.tag → h ≡ end_in typed (line_of data_row) room → h ≡ H.Frame end
-        → end ≡ row.size → r ≡ read_count signed_count 4 (take end room) 5 → count_is row.columns r ≡ headed row room
-    unfolding headed
-    count_decides {t} {end} {h} {r} tag is-tag is-end framed same count =
-        let e : end_in typed (line_of data_row) room ≡ H.Frame end = sym is-end ∙ framed in
-        let c : r ≡ read_count signed_count 4 (take row.size room) 5 = count ∙ ap (λ (i : ℕ). read_count signed_count 4 (take i room) 5) same in
-        rw (eq-eqb _ _ (sym tag ∙ is-tag), e, eq-eqb _ _ same, ← c) refl
+      -- the count decides
+      pub count_decides : {t : ℕ} {r : Read ListSlot} → t ≡ tag_at typed room → t ≡ data_row.tag → length f ≡ row.size → r ≡ read_count signed_count 4 f 5
+          → count_is row.columns r ≡ headed row room
+      unfolding headed
+      count_decides {t} {r} tag is-tag same count =
+          let bytes : f ≡ take row.size room = is-frame.bytes ∙ ap (λ (i : ℕ). take i room) same in
+          let c : r ≡ read_count signed_count 4 (take row.size room) 5 = count ∙ ap (λ (s : List ℕ). read_count signed_count 4 s 5) bytes in
+          rw (eq-eqb _ _ (sym tag ∙ is-tag), is-frame.header, eq-eqb _ _ same, ← c) refl
 
 -- ---- the last column
 
-end_by_lem : (size start : ℕ) (f : List ℕ) (r : Read (Unit {0})) → length f ≡ size → end_by start (length f) r ≡ cond (at_end size r) (L.StartsAt start) L.NoRow
+end_by_lem : (size start : ℕ) (f : List ℕ) (r : Read (Unit {0})) → length f ≡ size → end_by start (length f) r ≡ cond (at_end size r) (Some start) None
 end_by_lem size start f (got _ next) long = rw long refl
 end_by_lem size start f (bad number place) long = refl
 
 walk_by_lem : (size m : ℕ) (f : List ℕ) (r : Read (Unit {0})) → length f ≡ size
-    → walk_by m f r ≡ cond (at_end size (and_then r (λ _ q. pass_items (rules_of 1) nullable m f q))) (L.StartsAt (place_of r)) L.NoRow
+    → walk_by m f r ≡ cond (at_end size (and_then r (λ _ q. pass_items (rules_of 1) nullable m f q))) (Some (place_of r)) None
 walk_by_lem size m f (got _ start) long = end_by_lem size start f (pass_items (rules_of 1) nullable m f start) long
 walk_by_lem size m f (bad number place) long = refl
 
 -- as the code walks: the first walk's refusal, or its end and then the second walk
 module _ {rules : Rules} (is : rules ≡ rules_of 1) (n m : ℕ) (f : List ℕ) where
-  pub walk_refused : {number place : ℕ} → bad number place ≡ pass_items rules nullable n f 7 → L.NoRow ≡ walk_of n m f
+  pub walk_refused : {number place : ℕ} → bad number place ≡ pass_items rules nullable n f 7 → None ≡ walk_of n m f
   unfolding walk_of
   walk_refused e = let h = rw is at e in rw (← h) refl
 
@@ -90,11 +89,11 @@ module _ {rules : Rules} (is : rules ≡ rules_of 1) (n m : ℕ) (f : List ℕ) 
   walk_on {start} e g = let h = rw is at e in let k = rw is at g in rw (← h) (ap (end_by start (length f)) k)
 
 -- the second walk ends where the frame does, or elsewhere
-module _ (start : ℕ) {next end : ℕ} {l : LastColumn} where
-  pub at_its_end : end_by start end (got tt next) ≡ l → next ≡ end → L.StartsAt start ≡ l
+module _ (start : ℕ) {next end : ℕ} {l : Option ℕ} where
+  pub at_its_end : end_by start end (got tt next) ≡ l → next ≡ end → Some start ≡ l
   at_its_end h e = rw (eq-eqb next end e) at h
 
-  pub elsewhere : end_by start end (got tt next) ≡ l → (next ≡ end → ⊥) → L.NoRow ≡ l
+  pub elsewhere : end_by start end (got tt next) ≡ l → (next ≡ end → ⊥) → None ≡ l
   elsewhere h e = rw (ne_eqb next end e) at h
 
 -- the last column is behind all others, if there is one
@@ -106,18 +105,27 @@ column_is row room n m h all before =
     let one : walk row.columns f ≡ and_then (walk n f) (λ _ q. pass_items (rules_of 1) nullable m f q) = rw (← all) (pass_split (rules_of 1) f n m 7) in
     walk_by_lem row.size m f (walk n f) long ∙ rw (stands_is row room, h, one, ← before) refl
 
-starts_no : {s : ℕ} → L.StartsAt s ≡ L.NoRow → ⊥
-starts_no e = zero_one cc
+some_none : {s : ℕ} → Some s ≡ None → ⊥
+some_none e = zero_one cc
 
-no_starts : {s : ℕ} → L.NoRow ≡ L.StartsAt s → ⊥
-no_starts e = zero_one cc
+none_some : {s : ℕ} → None ≡ Some s → ⊥
+none_some e = zero_one cc
 
 -- what the code is told
 module _ (row : Row) (room : List ℕ) where
-  pub no_row_lem : last_column_of row room ≡ L.NoRow → stands row room ≡ false
+  pub no_row_lem : last_column_of row room ≡ None → stands row room ≡ false
   unfolding last_column_of
-  no_row_lem e = (second_chosen (stands row room) starts_no e).0
+  no_row_lem e = (second_chosen (stands row room) some_none e).0
 
-  pub row_there : {s : ℕ} → last_column_of row room ≡ L.StartsAt s → (stands row room ≡ true) × (s ≡ columns_end (row.columns - 1) (take row.size room))
+  pub row_there : {s : ℕ} → last_column_of row room ≡ Some s → (stands row room ≡ true) × (s ≡ columns_end (row.columns - 1) (take row.size room))
   unfolding last_column_of
-  row_there e = let c = first_chosen (stands row room) no_starts e in let made = c.1 in (c.0, cc)
+  row_there e = let c = first_chosen (stands row room) none_some e in let made = c.1 in (c.0, cc)
+
+-- whether there is a start to tell
+told_by : (stood : Bool) (start : ℕ) → is_some (cond stood (Some start) None) ≡ stood
+told_by true start = refl
+told_by false start = refl
+
+pub told_stands : (row : Row) (room : List ℕ) → is_some (last_column_of row room) ≡ stands row room
+unfolding last_column_of
+told_stands row room = told_by (stands row room) _

@@ -20,8 +20,8 @@ use Rattle.writers.specs.Writing.{Put, Wrote, write, verdict_of}
 use Rattle.writers.proofs.Encoding.{room_by}
 use Rattle.writers.proofs.Puts.{same_size}
 use Rattle.row_builder.specs.Building.{begin_of, built_by, columns_end, drop_of, grow_of, head_of, left_by, place_of, stands}
-use Rattle.row_builder.specs.declared.Built.TheVariants as B
-use Rattle.row_builder.specs.declared.Built.{Built}
+use Rattle.row_builder.specs.Built as B
+use Rattle.row_builder.specs.Built.{Built}
 use Rattle.row_builder.specs.declared.Row.{Row}
 use Rattle.row_builder.proofs.Standing.{Fits, fits}
 use Rattle.row_builder.proofs.Walks.{pass_within}
@@ -42,6 +42,10 @@ built_is columns (N.Done size) next h =
 built_is columns (N.Refused number place) next h = absurd (refused_is h)
 
 -- an empty row
+pub begins : (room : List ℕ) {e : Encoded} → e ≡ verdict_of true 1048576 6 1 (length room) → built_by 0 e ≡ begin_of room
+unfolding begin_of data_row
+begins room e = ap (built_by 0) e
+
 pub begun_is : (room : List ℕ) (next : Row) → begin_of room ≡ B.Is next → Fits next room
 unfolding begin_of verdict_of data_row
 begun_is room next e =
@@ -113,11 +117,12 @@ dropped_is row room next e =
 
 -- ---- the room
 
-pub refused : {r definition : Built} {number place : ℕ} (p : ℕ) (xs room : List ℕ) → r ≡ definition → r ≡ B.Refused number place → (r ≡ definition) × (room ≡ left_by r p xs room)
+pub refused : {definition : Built} {number place : ℕ} (p : ℕ) (xs room : List ℕ) → B.Refused number place ≡ definition
+    → (B.Refused number place ≡ definition) × (room ≡ left_by (B.Refused number place) p xs room)
 unfolding left_by
-refused p xs room e is = (e, rw is refl)
+refused p xs room e = (e, refl)
 
-pub done : {r definition : Built} {next : Row} {mid out : List ℕ} (p : ℕ) (xs room : List ℕ) → r ≡ definition → r ≡ B.Is next
+pub done : {definition : Built} {next : Row} {mid out : List ℕ} (p : ℕ) (xs room : List ℕ) → B.Is next ≡ definition
     → mid ≡ write room p xs → out ≡ write mid 0 (head_of next) → (B.Is next ≡ definition) × (out ≡ left_by (B.Is next) p xs room)
 unfolding left_by
-done {next = next} p xs room e is first second = (sym is ∙ e, second ∙ ap (λ (m : List ℕ). write m 0 (head_of next)) first)
+done {next = next} p xs room e first second = (e, second ∙ ap (λ (m : List ℕ). write m 0 (head_of next)) first)

@@ -32,8 +32,8 @@ use Rattle.protocol.proofs.Numbers.{whole}
 use Rattle.protocol.proofs.Views.{Viewed, viewed}
 use Rattle.decode.proofs.Choices.{arm, in_mode}
 use Rattle.envelope.specs.Steps.{end_of, end_in, left_of, framed_by}
-use Rattle.envelope.specs.declared.Header.TheVariants as H
-use Rattle.envelope.specs.declared.Header.{Header as End}
+use Rattle.envelope.specs.Header as H
+use Rattle.envelope.specs.Header.{Header as End}
 use Rattle.envelope.proofs.Points.{ends, made_as}
 use Rattle.reader.specs.Row.{row_in}
 use Rattle.reader.proofs.RowRoom.{data-row, row_in_lem}
@@ -229,7 +229,7 @@ module _ (row : Row) (room : List ℕ) where
   end_by (H.Frame end) is = by (eqb end row.size) refl
     where
       long : length (take end room) ≡ end
-      long = ends typed (line_of data_row) room (sym is) refl
+      long = sym (ends typed (line_of data_row) room (sym is))
 
       by : (t : Bool) → eqb end row.size ≡ t → is_of row (left_of (rules_of 1) data_row.body data_row.message (take end room) 5) ≡ (t && counted) && walks
       by false t = other_size row _ (length (take end room)) (rw long t)

@@ -1,11 +1,12 @@
 -- A row that is built at the start of a lent room, column by column (docs/FORMAT.md 12): what each call answers, and what it leaves in the room.
-use Rattle.std.specs.Prelude.{ℕ, ◌+◌, ◌-◌, Bool, true, false, cond, ◌&&◌, List, [], ◌++◌, ltb, eqb, length, take}
+use Rattle.std.specs.Prelude.{ℕ, ◌+◌, ◌-◌, Bool, true, false, cond, ◌&&◌, List, ◌++◌, ltb, eqb, length, take, Result, Ok, Err}
 use Rattle.std.proofs.Math.Option.{Option, some, none}
 use Rattle.protocol.specs.Decoded as D
 use Rattle.protocol.specs.Decoded.{Decoded}
 use Rattle.protocol.specs.Encoded as N
 use Rattle.protocol.specs.Encoded.{Encoded}
 use Rattle.protocol.specs.declared.List.{List as ListSlot}
+use Rattle.protocol.specs.declared.refusal.Refused.{Refused}
 use Rattle.protocol.specs.Answers.{Answer, success, refusal}
 use Rattle.protocol.specs.Bytes.{be}
 use Rattle.protocol.specs.Decode.{decode_of}
@@ -14,11 +15,12 @@ use Rattle.protocol.specs.Kinds.{typed, data_row, nullable}
 use Rattle.protocol.specs.Reading.{Read, got, bad, pass_items}
 use Rattle.protocol.specs.Refusals.{not_representable, no_such_element}
 use Rattle.protocol.specs.Rules.{rules_of}
+use Rattle.protocol.specs.Told.{number_of}
 use Rattle.protocol.specs.WellFormed.{header}
 use Rattle.reader.specs.Row.{row_in}
 use Rattle.writers.specs.Writing.{write, verdict_of}
-use Rattle.row_builder.specs.declared.Built.TheVariants as B
-use Rattle.row_builder.specs.declared.Built.{Built}
+use Rattle.row_builder.specs.Built as B
+use Rattle.row_builder.specs.Built.{Built}
 use Rattle.row_builder.specs.declared.Row.{Row}
 
 -- ---- whether the room begins with a well-formed row of the stored count and size, which is decode's word
@@ -36,6 +38,11 @@ unfoldable pub stands : Row → List ℕ → Bool
 stands row room = is_of row (decode_of (rules_of 1) room)
 
 -- ---- the answers
+
+-- what the code's answer says
+abbrev pub built : Result Row Refused → Built
+built (Ok row) = B.Is row
+built (Err r) = B.Refused (number_of r.refusal) r.place
 
 -- a row of that many columns, where there may be a frame of its size
 unfoldable pub built_by : ℕ → Encoded → Built

@@ -1,5 +1,5 @@
 -- The steps by which the code comes to what `stands` says, in one walk: those of decoding a DataRow, and where its last column starts.
-use Rattle.std.specs.Prelude.{ℕ, ◌-◌, Bool, false, cond, ◌&&◌, List, eqb, length, take}
+use Rattle.std.specs.Prelude.{ℕ, ◌-◌, Bool, false, cond, ◌&&◌, List, eqb, length, take, Option, Some, None}
 use Rattle.protocol.specs.declared.List.{List as ListSlot}
 use Rattle.protocol.specs.Decode.{tag_at}
 use Rattle.protocol.specs.Fields.{signed_count}
@@ -8,12 +8,10 @@ use Rattle.protocol.specs.Lines.{line_of}
 use Rattle.protocol.specs.Reading.{Read, got, bad, pass_items, read_count}
 use Rattle.protocol.specs.Rules.{rules_of}
 use Rattle.envelope.specs.Steps.{end_in}
-use Rattle.envelope.specs.declared.Header.TheVariants as H
-use Rattle.envelope.specs.declared.Header.{Header}
+use Rattle.envelope.specs.Header as H
+use Rattle.envelope.specs.Header.{Header}
 use Rattle.row_builder.specs.Building.{columns_end, stands}
 use Rattle.row_builder.specs.declared.Row.{Row}
-use Rattle.row_builder.specs.declared.LastColumn.TheVariants as L
-use Rattle.row_builder.specs.declared.LastColumn.{LastColumn}
 
 -- ---- the head
 
@@ -34,19 +32,19 @@ headed row room =
 
 -- ---- the columns
 
-abbrev pub end_by : ℕ → ℕ → Read (Unit {0}) → LastColumn
-end_by start end (got _ next) = cond (eqb next end) (L.StartsAt start) L.NoRow
-end_by start end (bad number place) = L.NoRow
+abbrev pub end_by : ℕ → ℕ → Read (Unit {0}) → Option ℕ
+end_by start end (got _ next) = cond (eqb next end) (Some start) None
+end_by start end (bad number place) = None
 
-abbrev pub walk_by : ℕ → List ℕ → Read (Unit {0}) → LastColumn
+abbrev pub walk_by : ℕ → List ℕ → Read (Unit {0}) → Option ℕ
 walk_by behind frame (got _ start) = end_by start (length frame) (pass_items (rules_of 1) nullable behind frame start)
-walk_by behind frame (bad number place) = L.NoRow
+walk_by behind frame (bad number place) = None
 
--- past some columns, and past those behind them to the frame's end
-unfoldable pub walk_of : ℕ → ℕ → List ℕ → LastColumn
+-- past some columns, and past those behind them to the frame's end: where the ones behind start
+unfoldable pub walk_of : ℕ → ℕ → List ℕ → Option ℕ
 walk_of columns behind frame = walk_by behind frame (pass_items (rules_of 1) nullable columns frame 7)
 
 -- ---- both
 
-unfoldable pub last_column_of : Row → List ℕ → LastColumn
-last_column_of row room = cond (stands row room) (L.StartsAt (columns_end (row.columns - 1) (take row.size room))) L.NoRow
+unfoldable pub last_column_of : Row → List ℕ → Option ℕ
+last_column_of row room = cond (stands row room) (Some (columns_end (row.columns - 1) (take row.size room))) None

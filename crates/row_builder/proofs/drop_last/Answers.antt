@@ -1,14 +1,17 @@
 -- `row_builder::drop_last` meets its contract: the shorter row, and its head.
-use mathlib.Core.Path.{refl, sym, ◌∙◌}
+use mathlib.Core.Path.{refl, sym}
+use Rattle.std.proofs.lemmas.Result.{err_from_is_err_and}
 use Rattle.row_builder.proofs.Rows.{done, dropped_is, refused}
 use Rattle.row_builder.proofs.drop_last.Goals as goal
 
-pub returns-in_default : goal.returns-in_default
-returns-in_default c = refused 0 _ _ c.shortened-r.ensures c.in_default.is
+pub returns-in_err-next : goal.returns-in_err-next
+returns-in_err-next c =
+    let p = err_from_is_err_and c.from_residual.result c.from_residual.ensures.1 in
+    rw (p.1, p.2) (refused 0 _ _ c.in_err-next.ensures)
 
-pub put_row_head-requires : goal.put_row_head-requires
-put_row_head-requires c = let f = dropped_is _ _ _ (sym c.shortened-r.ensures ∙ c.in-Is.is) in
+pub put_at_start-requires : goal.put_at_start-requires
+put_at_start-requires c = let f = dropped_is _ _ _ (sym c.in_ok-next.ensures) in
     (f.some, f.within, f.small, f.few)
 
 pub returns : goal.returns
-returns c = done 0 _ _ c.shortened-r.ensures c.in-Is.is refl c.put_row_head.ensures
+returns c = done 0 _ _ c.in_ok-next.ensures refl c.put_at_start.ensures

@@ -9,4 +9,4 @@ returns-then-stands c = rw (sym c.stands.ensures ∙ c.if-stands.true) refl
 
 pub returns : goal.returns
 unfolding finish_of
-returns c = rw (sym c.stands.ensures ∙ c.if-stands.false) refl
+returns c = rw (c.at.ensures, sym c.stands.ensures ∙ c.if-stands.false) refl

@@ -1,11 +1,11 @@
--- `row_builder::put_row_head` meets its contract: the head of a frame, and the count behind it.
+-- `row_builder::Row::put_at_start` meets its contract: the head of a frame, and the count behind it.
 use mathlib.Core.Path.{refl}
 use native.Mathlib.Omega.{arith}
 use Rattle.protocol.specs.Kinds.{data_row}
 use Rattle.writers.proofs.Laws.{◌then◌}
 use Rattle.writers.proofs.Puts.{headed, same_size}
 use Rattle.row_builder.specs.Building.{head_of}
-use Rattle.row_builder.proofs.put_row_head.Goals as goal
+use Rattle.row_builder.proofs.Row.put_at_start.Goals as goal
 
 pub returns : goal.returns
 unfolding head_of data_row
