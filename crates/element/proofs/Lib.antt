@@ -1,4 +1,3 @@
 pub mod Reached
-pub mod Fitting
 pub mod Calls
 pub mod Told

@@ -1,12 +1,11 @@
 -- What is promised of a list leaves one answer: no two sorts have the same items.
-use Prim.Native.Nat.{ℕ}
 use mathlib.Core.List.{List, [], ◌∷◌}
 use mathlib.Core.Option.{Option, some, none}
 use mathlib.Core.Path.{◌≡◌, refl, ap, sym, ◌∙◌}
+use Rattle.std.specs.Prelude.{Option as Maybe, Some, None}
+use Rattle.protocol.specs.declared.List.{List as ListSlot}
 use Rattle.protocol.specs.Elements.{Listed}
 use Rattle.protocol.specs.Fields.{Atom, unsigned, signed, one_of, text, value, rest}
-use Rattle.element.specs.declared.list.OneList.TheVariants as L
-use Rattle.element.specs.declared.list.OneList.{OneList}
 use Rattle.element.specs.declared.list.Sort.TheVariants as S
 use Rattle.element.specs.declared.list.Sort.{Sort}
 use Rattle.element.specs.OneList.{item_of, listed_of}
@@ -41,14 +40,14 @@ sort_back S.Field = refl
 sort_back S.ErrorField = refl
 sort_back S.Pair = refl
 
-one_list_by : Option Listed → OneList
-one_list_by none = L.NoList
-one_list_by (some x) = L.Is (sort_by x.item.atoms) x.list
+one_list_by : Option Listed → Maybe (Sort × ListSlot)
+one_list_by none = None
+one_list_by (some x) = Some (sort_by x.item.atoms, x.list)
 
-list_back : (r : OneList) → one_list_by (listed_of r) ≡ r
+list_back : (r : Maybe (Sort × ListSlot)) → one_list_by (listed_of r) ≡ r
 unfolding one_list_by
-list_back (L.Is sort list) = ap (λ (s : Sort). L.Is s list) (sort_back sort)
-list_back L.NoList = refl
+list_back (Some (sort, list)) = ap (λ (s : Sort). Some (s, list)) (sort_back sort)
+list_back None = refl
 
-pub told_once : (r s : OneList) → listed_of r ≡ listed_of s → r ≡ s
+pub told_once : (r s : Maybe (Sort × ListSlot)) → listed_of r ≡ listed_of s → r ≡ s
 told_once r s e = sym (list_back r) ∙ ap one_list_by e ∙ list_back s

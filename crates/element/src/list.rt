@@ -1,4 +1,4 @@
-// A list of a message: the sort of its items and where it stands.
+// A list of a message: the sort of its items and where it stands, if there is one.
 // Inner: for crates of this library alone (docs/INNER.md).
 ghost use Rattle.std.specs.Prelude.{◌≡◌};
 ghost use Rattle.protocol.specs.Elements.{list_of};
@@ -9,7 +9,7 @@ use protocol::extendedquery::Bind;
 use protocol::{List, Message};
 
 // A sort of item.
-#[derive(Clone, Copy)]
+#[derive(Clone, Copy, Debug, PartialEq, Eq)]
 pub enum Sort {
     Oid,
     Format,
@@ -19,39 +19,25 @@ pub enum Sort {
     Pair,
 }
 
-// A list with the sort of its items, or that there is none.
-#[derive(Clone, Copy)]
-pub enum OneList {
-    Is(Sort, List),
-    NoList,
-}
-
 // Of a kind with one list.
-fn only(sort: Sort, its: List, list: usize) -> OneList
+fn only(sort: Sort, its: List, list: usize) -> Option<(Sort, List)>
     ensures { listed_of result ≡ only (item_of sort) its list }
 {
-    if list == 0 {
-        OneList::Is(sort, its)
-    } else {
-        OneList::NoList
-    }
+    if list == 0 { Some((sort, its)) } else { None }
 }
 
-fn bind_list(m: Bind, list: usize) -> OneList
+fn bind_list(m: Bind, list: usize) -> Option<(Sort, List)>
     ensures { listed_of result ≡ list_of (M.Bind m) list }
 {
-    let parameter_formats = m.parameter_format_codes;
-    let parameters = m.parameters;
-    let result_formats = m.result_column_format_codes;
     match list {
-        0 => OneList::Is(Sort::Format, parameter_formats),
-        1 => OneList::Is(Sort::Value, parameters),
-        2 => OneList::Is(Sort::Format, result_formats),
-        _ => OneList::NoList,
+        0 => Some((Sort::Format, m.parameter_format_codes)),
+        1 => Some((Sort::Value, m.parameters)),
+        2 => Some((Sort::Format, m.result_column_format_codes)),
+        _ => None,
     }
 }
 
-pub fn list_of(message: Message, list: usize) -> OneList
+pub fn list_of(message: Message, list: usize) -> Option<(Sort, List)>
     ensures { listed_of result ≡ list_of message list }
 {
     match message {
@@ -66,6 +52,6 @@ pub fn list_of(message: Message, list: usize) -> OneList
         Message::CopyOutResponse(m) => only(Sort::Format, m.column_formats, list),
         Message::CopyBothResponse(m) => only(Sort::Format, m.column_formats, list),
         Message::Startup(m) => only(Sort::Pair, m.parameters, list),
-        _ => OneList::NoList,
+        _ => None,
     }
 }

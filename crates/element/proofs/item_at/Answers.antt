@@ -1,29 +1,20 @@
--- `element::item_at` meets its contract: sort by sort.
-use mathlib.Core.Path.{refl, ◌∙◌}
+-- `element::item_at` meets its contract: past those before it, and then the item.
+use Rattle.std.proofs.Common.{refl}
+use Rattle.std.proofs.lemmas.Result.{err_from_is_err_and}
+use Rattle.protocol.specs.Elements.{element_by}
+use Rattle.element.proofs.Reached.{item_is, item_refused}
 use Rattle.element.proofs.item_at.Goals as goal
 
-pub oid_at-requires : goal.oid_at-requires
-oid_at-requires c = let pre = c.requires in
-    rw c.in-Oid.is at pre
+pub returns-in_err-c : goal.returns-in_err-c
+unfolding element_by
+returns-in_err-c g c =
+    let p = err_from_is_err_and c.from_residual.result c.from_residual.ensures.1 in
+    rw (p.1, p.2, ← c.in_err-c.ensures) refl
 
-pub format_at-requires : goal.format_at-requires
-format_at-requires c = let pre = c.requires in
-    rw c.in-Format.is at pre
+pub returns-in_err-element : goal.returns-in_err-element
+returns-in_err-element g c =
+    let p = err_from_is_err_and c.from_residual-in_err-element.result c.from_residual-in_err-element.ensures.1 in
+    rw (p.1, p.2) (item_refused _ g.I.Item.item _ _ _ _ c.in_ok-c.ensures c.in_err-element.ensures)
 
-pub returns-in-Oid : goal.returns-in-Oid
-returns-in-Oid c = c.oid_at.ensures ∙ rw c.in-Oid.is refl
-
-pub returns-in-Format : goal.returns-in-Format
-returns-in-Format c = c.format_at.ensures ∙ rw c.in-Format.is refl
-
-pub returns-in-Value : goal.returns-in-Value
-returns-in-Value c = c.value_at.ensures ∙ rw c.in-Value.is refl
-
-pub returns-in-Field : goal.returns-in-Field
-returns-in-Field c = c.field_at.ensures ∙ rw c.in-Field.is refl
-
-pub returns-in-ErrorField : goal.returns-in-ErrorField
-returns-in-ErrorField c = c.error_field_at.ensures ∙ rw c.in-ErrorField.is refl
-
-pub returns-in-Pair : goal.returns-in-Pair
-returns-in-Pair c = c.pair_at.ensures ∙ rw c.in-Pair.is refl
+pub returns : goal.returns
+returns g c = item_is _ g.I.Item.item _ _ _ _ c.in_ok-c.ensures c.in_ok-element.ensures
