@@ -250,7 +250,7 @@ entries s starts₀ starts₁ lengths₀ lengths₁ l n e =
     let f = take n s in
     let ok = rw d.list at (values_passed s d.row n d.is).1 in
     let count = many from_backend f l.count l.start _ ok in
-    let elements = (answered_as from_backend s 0 (D.Record (M.DataRow d.row) n) d.is).2 in
+    let elements = (answered_as from_backend s 0 (D.Record (M.DataRow d.row) n) d.is).1 in
     record {
       entry = λ i h.
           let w = passed from_backend f l.count l.start _ i ok h in (
