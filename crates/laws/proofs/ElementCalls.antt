@@ -1,8 +1,8 @@
 -- Element calls: decode's own refusal first, need-more exactly where decoding says so, more bytes, and the second form, a value's bytes or the empty
 -- start of the stand-in.
-use Prim.Native.Nat.{ℕ, zero, suc}
+use Prim.Native.Nat.{ℕ}
 use mathlib.Core.Bool.{Bool, true, false, cond}
-use mathlib.Core.List.{List, [], ◌∷◌, ◌++◌}
+use mathlib.Core.List.{List, ◌++◌}
 use mathlib.Core.Logic.{inl, inr}
 use mathlib.Core.Option.{Option, some, none}
 use mathlib.Core.Path.{◌≡◌, refl, ap, sym, ◌∙◌}
@@ -12,21 +12,19 @@ use lib.Seq.{take-append-le}
 use Rattle.protocol.specs.Decoded as D
 use Rattle.protocol.specs.Found as F
 use Rattle.protocol.specs.Found.{Found as ElementAnswer}
-use Rattle.protocol.specs.declared.Element.{Element}
 use Rattle.protocol.specs.declared.Message.{Message}
 use Rattle.protocol.specs.declared.Rules.{Rules}
-use Rattle.protocol.specs.declared.Span.{Span}
-use Rattle.protocol.specs.Answers.{Answer, Unsuccessful, of_decoded, of_element}
+use Rattle.protocol.specs.Answers.{Unsuccessful, of_decoded, of_element}
 use Rattle.protocol.specs.Decode.{Header, more, refuse, framed, header_of, closed, read_body, body_of, decoded_by, decode_by, decode_of}
 use Rattle.protocol.specs.Each.{Each, slots_of_each}
 use Rattle.protocol.specs.Elements.{Listed, list_in, read_item_at, element_by, found_by, element_at, element_in, element_of, value_or}
-use Rattle.protocol.specs.Fields.{AtomSlot, value_slot, atom_slot, Item, item_slots, Field, one, counted, ended, Slot}
+use Rattle.protocol.specs.Fields.{AtomSlot, value_slot, atom_slot, Item, item_slots}
 use Rattle.protocol.specs.Kinds.{Kind, nullable, value_element}
 use Rattle.protocol.specs.Reading.{Read, got, bad, and_then, read, read_each}
 use Rattle.protocol.specs.Refusals.{bytes_left, no_such_element}
 use Rattle.protocol.specs.WellFormed.{body_start}
 use Rattle.protocol.proofs.Basics.{zero_one}
-use Rattle.protocol.proofs.Framed.{framed_is, framed_ends, Framed}
+use Rattle.protocol.proofs.Framed.{framed_is, framed_ends}
 use Rattle.laws.specs.ElementStatements.{RefusedFirst, ElementsNeedMore, ElementsMoreBytes, StandIns, own_or, EmptyStarts}
 use Rattle.laws.specs.Items.{Found, AtomsPlaced, IsItem, Answers}
 use Rattle.laws.specs.Places.{AtomPlaced, ValuePlaced}
@@ -36,7 +34,6 @@ use Rattle.laws.proofs.Elements.{elements}
 use Rattle.laws.proofs.Faults.{handed}
 use Rattle.laws.proofs.Headers.{body_answers, header_again}
 use Rattle.laws.proofs.Speaking.{row_speaks, OfList, found_of}
-use Rattle.laws.proofs.Table.{mode_found, kind_found}
 
 -- ---- a body that is refused is refused whatever is made of its slots
 

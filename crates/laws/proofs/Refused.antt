@@ -8,23 +8,22 @@ use mathlib.Core.Path.{◌≡◌, refl, ap, sym, ◌∙◌}
 use native.Mathlib.Omega.{arith}
 use borrow.Author.Tests.{lt-leb, le-leb, lt-ltb, ne_eqb, eqb-false, not-true}
 use lib.Dec.{T, leb, leb→le, eqb}
-use lib.IntN.{ℤ, pos, negsuc}
+use lib.IntN.{pos, negsuc}
 use lib.ListN.{length, take, drop, length-append, length-drop, take-append-drop}
 use lib.Seq.{drop-drop, drop-append_seam, length-take-le}
-use Rattle.protocol.specs.declared.List.{List as ListSlot}
 use Rattle.protocol.specs.declared.Rules.{Rules}
 use Rattle.protocol.specs.Bytes.{no_zero, number_from, number_at}
 use Rattle.protocol.specs.Decode.{closed}
 use Rattle.protocol.specs.Each.{Each}
-use Rattle.protocol.specs.Fields.{Atom, unsigned, signed, one_of, text, value, rest, AtomSlot, atom_slot, atom_bytes, Item, ItemContent, ItemsInRange, item_bytes, item_slots, item_least, item_able, items_able, items_bytes, zero_first, none_ends, Count, count_of, Field, one, counted, ended, Slot, slot, bytes}
+use Rattle.protocol.specs.Fields.{Atom, unsigned, signed, one_of, text, value, rest, atom_slot, atom_bytes, Item, ItemContent, ItemsInRange, item_bytes, item_slots, item_least, item_able, items_able, items_bytes, zero_first, none_ends, Count, count_of, Field, one, counted, ended, Slot, slot, bytes}
 use Rattle.protocol.specs.Reading.{Read, got, bad, and_then, read_number, one_more, zero_in, text_at, read_text, value_at, read_value, read_atom, read_each, read_item, pass_items, count_at, read_count, read_counted, ended_from, read_ended, read}
-use Rattle.protocol.specs.Refusals.{bad_count, cut, not_allowed, bytes_left}
+use Rattle.protocol.specs.Refusals.{cut, bytes_left}
 use Rattle.protocol.proofs.Find.{every}
 use Rattle.protocol.proofs.Basics.{left_holds, right_holds}
-use Rattle.laws.specs.Faults.{Short, AtomFault, AtomBefore, AtomsFault, here, later, CountFault, ItemFault, EndedFault, FieldFault, FieldBefore, BodyFault, left}
+use Rattle.laws.specs.Faults.{Short, AtomFault, AtomsFault, here, later, CountFault, ItemFault, EndedFault, FieldFault, BodyFault, left}
 use Rattle.laws.proofs.Atoms.{atom_back}
 use Rattle.laws.proofs.Bodies.{sane_field, field_back}
-use Rattle.laws.proofs.Items.{both, in_item, in_item_sane, in_item_last, sane_item, item_back, item_least_lem}
+use Rattle.laws.proofs.Items.{both, in_item, in_item_sane, sane_item, item_back, item_least_lem}
 
 -- ---- a string with no zero byte
 

@@ -3,14 +3,13 @@ use Prim.Native.Nat.{ℕ, ◌<◌}
 use mathlib.Core.Bool.{Bool, true, false, cond, false≢true}
 use mathlib.Core.List.{List, [], ◌∷◌, ◌++◌, append-nil}
 use mathlib.Core.Logic.{inl, inr}
-use mathlib.Core.Option.{Option, some, none}
-use mathlib.Core.Path.{◌≡◌, refl, sym, ◌∙◌}
+use mathlib.Core.Option.{some}
+use mathlib.Core.Path.{◌≡◌, refl}
 use native.Mathlib.Omega.{arith}
 use borrow.Author.Tests.{ltb-true}
 use lib.Dec.{ltb}
-use lib.ListN.{length, take, drop}
+use lib.ListN.{take}
 use Rattle.protocol.specs.Decoded as D
-use Rattle.protocol.specs.declared.Element.{Element}
 use Rattle.protocol.specs.declared.Message.TheVariants as M
 use Rattle.protocol.specs.declared.Message.{Message}
 use Rattle.protocol.specs.declared.Rules.{Rules}
@@ -23,7 +22,7 @@ use Rattle.protocol.specs.Kinds.{typed, backend, parse_complete, value_element}
 use Rattle.protocol.specs.Rules.{rules_of}
 use Rattle.protocol.specs.WellFormed.{body_start, body_bytes, header, frame, record_of}
 use Rattle.protocol.proofs.Open.{the_decoding}
-use Rattle.laws.specs.Items.{Found, found, Answers}
+use Rattle.laws.specs.Items.{found}
 use Rattle.laws.specs.Statements.{Decoder, ElementCall, the_decoder, the_element_call, Sound, NeedMore, Refusals}
 use Rattle.laws.specs.ElementStatements.{Elements}
 use Rattle.laws.specs.Rejected.{Rejected}

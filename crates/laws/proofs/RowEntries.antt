@@ -1,26 +1,24 @@
 -- Entry i of the two lists that a row was read into is element i, and later entries are as they were.
 use Prim.Native.Nat.{ℕ, zero, suc, ◌+◌, ◌-◌, ◌/◌, ◌^◌, ◌≤◌, ◌<◌}
-use mathlib.Core.Bool.{Bool, true, false, cond, ◌&&◌, false≢true}
+use mathlib.Core.Bool.{Bool, true, false, cond, ◌&&◌}
 use mathlib.Core.List.{List, [], ◌∷◌, ◌++◌, map}
 use mathlib.Core.Option.{Option, some, none}
 use mathlib.Core.Path.{◌≡◌, refl, ap, sym, subst, ◌∙◌}
 use native.Mathlib.Omega.{arith}
-use borrow.Author.Tests.{ltb-true, lt-ltb, eq-eqb}
-use denote.Enum.Declared.{tag_of as variant_of}
-use lib.Dec.{eqb, leb, ltb}
+use borrow.Author.Tests.{ltb-true, lt-ltb}
+use lib.Dec.{leb, ltb}
 use lib.IntN.{ℤ, pos, negsuc}
 use lib.ListN.{length, take, drop, length-map}
 use Rattle.protocol.specs.Decoded as D
 use Rattle.protocol.specs.Decoded.{Decoded}
 use Rattle.protocol.specs.Found as F
-use Rattle.protocol.specs.declared.Element.TheVariants as E
 use Rattle.protocol.specs.declared.List.{List as ListSlot}
 use Rattle.protocol.specs.declared.Message.TheVariants as M
 use Rattle.protocol.specs.declared.Message.{Message}
 use Rattle.protocol.specs.declared.Rules.{Rules}
 use Rattle.protocol.specs.declared.data.DataRow.{DataRow}
 use Rattle.protocol.specs.declared.Span.{Span}
-use Rattle.protocol.specs.Answers.{success, of_element}
+use Rattle.protocol.specs.Answers.{of_element}
 use Rattle.protocol.specs.Bytes.{longest, signed_of}
 use Rattle.protocol.specs.Decode.{Header, more, refuse, framed, header_of, closed, decoded_by, decode_by, decode_of}
 use Rattle.protocol.specs.Elements.{list_in, list_of, read_item_at, element_by, element_at}

@@ -3,7 +3,7 @@
 use Rattle.std.specs.Prelude.{ℕ, false, List, [], ◌∷◌, ◌++◌, ◌≡◌, take}
 use Rattle.std.proofs.Math.Option.{Option, some, none}
 use Rattle.protocol.specs.declared.Rules.{Rules}
-use Rattle.protocol.specs.Answers.{success, needs_more, refusal, Unsuccessful, of_decoded, of_element}
+use Rattle.protocol.specs.Answers.{refusal, Unsuccessful, of_decoded, of_element}
 use Rattle.protocol.specs.Bytes.{Bytes}
 use Rattle.protocol.specs.Elements.{value_or}
 use Rattle.protocol.specs.Kinds.{Kind, Mode, nullable}
