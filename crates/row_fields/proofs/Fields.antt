@@ -1,6 +1,6 @@
 -- One field: its name's length, and its turn in a pass.
 use Prim.Native.Nat.{ℕ, ◌+◌, ◌≤◌, ◌<◌}
-use mathlib.Core.Bool.{Bool, true, false, cond, ◌&&◌}
+use mathlib.Core.Bool.{Bool, true, false, cond, ◌&&◌, and_assoc}
 use mathlib.Core.List.{List, [], ◌∷◌, ◌++◌}
 use mathlib.Core.Path.{◌≡◌, refl, ◌∙◌, sym}
 use native.Mathlib.Omega.{arith}
@@ -14,16 +14,13 @@ use Rattle.protocol.specs.Encode.{row_field_given}
 use Rattle.protocol.specs.Fields.{atom_bytes, item_bytes}
 use Rattle.protocol.specs.Kinds.{row_field}
 use Rattle.writers.specs.Writing.{largest, write, Wrote}
-use Rattle.writers.proofs.Laws.{◌then◌}
+use Rattle.writers.proofs.Laws.{◌then◌, wrote_as}
 use Rattle.protocol.proofs.Basics.{and_left, and_right}
 use Rattle.row_fields.specs.declared.Pass.{Pass}
 use Rattle.row_fields.specs.Passes.{passed, numbers, after, step_pass, step_out}
 
 pub part_length : (xs : List ℕ) (s n : ℕ) → s + n ≤ length xs → length (take n (drop s xs)) ≡ n
 part_length xs s n h = omega (arith, length-take n (drop s xs), length-drop s xs)
-
-pub resized : {d xs left : List ℕ} {p n m next : ℕ} → Wrote d p xs n left next → n ≡ m → Wrote d p xs m left next
-resized w e = record { bytes = w.bytes; size = w.size ∙ e; place = omega (arith, w.place, e) }
 
 -- a field is written: its name and the numbers, the signed ones as their bits
 pub fielded : {d mid left : List ℕ} {p at next table column size modifier format : ℕ} (f : FieldDescription) (run : List ℕ)
@@ -34,7 +31,7 @@ pub fielded : {d mid left : List ℕ} {p at next table column size modifier form
     → Wrote d p (item_bytes row_field (row_field_given f run)) (f.name.len + 19) left next
 unfolding item_bytes bytes_of_each atom_bytes
 fielded f run table column size modifier format name rest =
-    resized (name then rw (table, column, size, modifier, format) at rest) (omega arith)
+    wrote_as (name then rw (table, column, size, modifier, format) at rest) refl (omega arith)
 
 pub inside : (writing : Bool) (f : FieldDescription) (run : List ℕ) → passed writing f run ≡ true → f.name.start + f.name.len ≤ length run
 unfolding passed
@@ -46,27 +43,25 @@ module _ (c : Pass) (f : FieldDescription) (run : List ℕ) {able : Bool} {next 
   unfolding step_pass
   stepped = rw (same, place) refl
 
-  pub roomy : (out : List ℕ) → able && leb next (length out) ≡ true → length out < largest
+  -- the test, as the code makes it, and in the definition's words
+  test : (out : List ℕ) → c.writing && (passed c.writing f run && leb (after c f) (length out)) ≡ (c.writing && able) && leb next (length out)
+  test out = rw (← same, ← place) (sym (and_assoc c.writing able (leb next (length out))))
+
+  pub roomy : (out : List ℕ) → (c.writing && able) && leb next (length out) ≡ true → length out < largest
       → (f.name.start + f.name.len ≤ length run) × (c.at + (f.name.len + 19) ≤ length out)
   unfolding after
   roomy out t small =
-      let n : passed c.writing f run ≡ true = sym same ∙ and_left able (leb next (length out)) t in
-      let l : next ≤ length out = leb-true _ _ (and_right able t) in
+      let n : passed c.writing f run ≡ true = sym same ∙ and_right c.writing (and_left (c.writing && able) (leb next (length out)) t) in
+      let l : next ≤ length out = leb-true _ _ (and_right (c.writing && able) t) in
       (inside c.writing f run n, omega (arith, l, place, small))
 
-  pub put : (out : List ℕ) {left : List ℕ} → c.writing ≡ true → able && leb next (length out) ≡ true → left ≡ write out c.at (item_bytes row_field (row_field_given f run)) → left ≡ step_out c f run out
+  pub put : (out : List ℕ) {left : List ℕ} → (c.writing && able) && leb next (length out) ≡ true → left ≡ write out c.at (item_bytes row_field (row_field_given f run)) → left ≡ step_out c f run out
   unfolding step_out
-  put out w t e =
-      let u : passed c.writing f run && leb (after c f) (length out) ≡ true = rw (same, place) at t in
-      let v : c.writing && (passed c.writing f run && leb (after c f) (length out)) ≡ true = (λ j. w j && u j) in
-      rw v e
+  put out t e = rw (test out ∙ t) e
 
-  pub short : (out : List ℕ) → c.writing ≡ true → able && leb next (length out) ≡ false → out ≡ step_out c f run out
+  pub unwritten : (out : List ℕ) → (c.writing && able) && leb next (length out) ≡ false → out ≡ step_out c f run out
   unfolding step_out
-  short out w t =
-      let u : passed c.writing f run && leb (after c f) (length out) ≡ false = rw (same, place) at t in
-      let v : c.writing && (passed c.writing f run && leb (after c f) (length out)) ≡ false = (λ j. w j && u j) in
-      rw v refl
+  unwritten out t = rw (test out ∙ t) refl
 
 pub kept : (c : Pass) (f : FieldDescription) (run out : List ℕ) → c.writing ≡ false → out ≡ step_out c f run out
 unfolding step_out

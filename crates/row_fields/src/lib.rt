@@ -2,7 +2,7 @@
 // Inner: for crates of this library alone (docs/INNER.md).
 #![tactic(auto)]
 
-ghost use Rattle.std.specs.Prelude.{◌+◌, ◌≤◌, [], ◌++◌, ◌∷◌, ◌≡◌, drop, length, take};
+ghost use Rattle.std.specs.Prelude.{◌+◌, ◌≤◌, ◌<◌, ◌≡◌, MatchOption, drop, length, take};
 ghost use Rattle.protocol.specs.Encode.{row_field_given};
 ghost use Rattle.protocol.specs.Fields.{item_bytes};
 ghost use Rattle.protocol.specs.Kinds.{row_field};
@@ -15,7 +15,8 @@ use protocol::kinds::{LARGE, MOST_SIGNED};
 use protocol::refusal::Refused;
 use writers::{bits16, bits32, no_zero, plus, put_half, put_head, put_pairs, put_text, verdict};
 
-// How far a pass is: the next byte's place, whether every name so far can be written, and whether the pass writes.
+// How far a pass is: the next byte's place, whether every name so far can be written, and whether the pass writes. The place goes on where a name
+// cannot be written, as the definitions tell it (specs/Passes.antt): so `at` is no Option in place of `ok`.
 #[derive(Clone, Copy)]
 pub struct Pass {
     pub at: usize,
@@ -23,87 +24,51 @@ pub struct Pass {
     pub writing: bool,
 }
 
+// A field's name, where it stands in the run.
+fn name_in(f: FieldDescription, run: &[u8]) -> Option<&[u8]>
+    ensures { MatchOption result
+        (length run.now < f.name.start + f.name.len)
+        (λ name. (f.name.start + f.name.len ≤ length run.now) × (name.now ≡ take f.name.len (drop f.name.start run.now))) }
+{
+    run.get(f.name.start..)?.get(..f.name.len)
+}
+
 // Whether a pass may go on past a field. The pass that writes comes after one that has looked at every byte of the names.
 fn name_able(f: FieldDescription, run: &[u8], writing: bool) -> bool
     ensures { result ≡ P.passed writing f run.now }
 {
-    let start = f.name.start;
-    let len = f.name.len;
-    if run.len() < start {
+    let Some(name) = name_in(f, run) else {
         return false;
-    }
-    if run.len() - start < len {
-        return false;
-    }
-    if writing {
-        return true;
-    }
-    no_zero(&run[start..start + len])
+    };
+    writing || no_zero(name)
 }
 
-// A name, which stands in the run, with its zero byte.
-fn put_name(out: &mut [u8], at: usize, run: &[u8], start: usize, len: usize) -> usize
-    requires { (start + len ≤ length run.now) × (at + len + 1 ≤ length out.old) }
-    ensures { Wrote out.old at (take len (drop start run.now) ++ 0 ∷ []) (len + 1) out.new result }
-{
-    put_text(out, at, &run[start..start + len])
-}
-
-// The six numbers of a field, the signed ones as their bits.
-fn put_numbers(
-    out: &mut [u8],
-    at: usize,
-    table: u32,
-    column: u16,
-    type_id: u32,
-    size: u16,
-    modifier: u32,
-    format: u16,
-) -> usize
-    requires { at + 18 ≤ length out.old }
-    ensures { Wrote out.old at (P.numbers table column type_id size modifier format) 18 out.new result }
-{
-    put_pairs(out, at, table, column, type_id, size, modifier, format)
-}
-
-// One field: its name, a zero byte and the numbers.
+// One field: its name, a zero byte and the numbers, the signed ones as their bits.
 fn put_field(f: FieldDescription, run: &[u8], out: &mut [u8], at: usize) -> usize
     requires { (f.name.start + f.name.len ≤ length run.now) × (at + (f.name.len + 19) ≤ length out.old) }
     ensures { Wrote out.old at (item_bytes row_field (row_field_given f run.now)) (f.name.len + 19) out.new result }
 {
+    let start = f.name.start;
+    let at = put_text(out, at, &run[start..start + f.name.len]);
     let table = bits32(f.table_id);
     let column = bits16(f.column_id);
     let size = bits16(f.type_size);
     let modifier = bits32(f.type_modifier);
     let format = bits16(f.format_code);
-    let at = put_name(out, at, run, f.name.start, f.name.len);
-    put_numbers(out, at, table, column, f.type_id, size, modifier, format)
+    put_pairs(out, at, table, column, f.type_id, size, modifier, format)
 }
 
 // One field's turn in a pass: it is measured, and written where the pass writes.
 fn step(c: Pass, f: FieldDescription, run: &[u8], out: &mut [u8]) -> Pass
     ensures { (result ≡ P.step_pass c f run.now) × (out.new ≡ P.step_out c f run.now out.old) }
 {
-    let after = plus(c.at, plus(f.name.len, 19));
-    if c.writing {
-        let able = name_able(f, run, c.writing);
-        let next = Pass {
-            at: after,
-            ok: c.ok & able,
-            writing: c.writing,
-        };
-        if able & (after <= out.len()) {
-            put_field(f, run, out, c.at);
-            return next;
-        }
-        return next;
-    }
+    let at = plus(c.at, plus(f.name.len, 19));
     let able = name_able(f, run, c.writing);
-    Pass {
-        at: after,
-        ok: c.ok & able,
-        writing: c.writing,
+    if c.writing & able & (at <= out.len()) {
+        put_field(f, run, out, c.at);
     }
+    let ok = c.ok & able;
+    Pass { at, ok, ..c }
 }
 
 // A pass over all fields.
@@ -111,13 +76,11 @@ pub fn each(fields: &[FieldDescription], run: &[u8], out: &mut [u8], c: Pass) ->
     ensures { (result ≡ P.all_pass fields.now run.now c)
         × (out.new ≡ P.all_out fields.now run.now out.old c) }
 {
-    let mut i: usize = 0;
-    let mut p = c;
-    while i < fields.len() {
-        p = step(p, fields[i], run, out);
-        i = i + 1;
+    let mut c = c;
+    for f in fields {
+        c = step(c, *f, run, out);
     }
-    p
+    c
 }
 
 // The answer to what was measured; where it is a number of bytes, the frame's head and the count are written.
