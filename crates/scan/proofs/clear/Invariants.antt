@@ -1,12 +1,7 @@
--- The loop of `scan::clear`.
-use Prim.Native.Nat.{◌-◌, ◌+◌, ◌≤◌}
-use mathlib.Core.Bool.{true}
-use mathlib.Core.Path.{◌≡◌}
-use Rattle.scan.specs.Zero.{zero_from}
+-- The loop of `scan::clear`: what it knows of the bytes so far.
+use Rattle.std.proofs.Common.{◌≡◌, take}
+use Rattle.scan.specs.Zero.{is_clear}
 use Rattle.scan.proofs.clear.Given as goal
 
-abbrev pub invariant-loop-k : goal.invariant-loop-k
-invariant-loop-k l = (l.k ≤ l.width) × (l.r ≡ true → zero_from l.s (l.i + l.k) ≡ zero_from l.s l.i)
-
-abbrev pub decreases-loop-k : goal.decreases-loop-k
-decreases-loop-k l = l.width - l.k
+abbrev pub invariant-loop-byte : goal.invariant-loop-byte
+invariant-loop-byte g l = l.clear ≡ is_clear (take l.byte-index l.block)
