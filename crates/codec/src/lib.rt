@@ -31,22 +31,22 @@ pub struct Cursor {
 }
 
 // A number of 1, 2 or 4 bytes, read as a signed one in two's complement.
-pub fn signed8(x: u8) -> i8
-    ensures { result ≡ signed_of 1 x }
+pub fn signed8(byte: u8) -> i8
+    ensures { result ≡ signed_of 1 byte }
 {
-    x.cast_signed()
+    byte.cast_signed()
 }
 
-pub fn signed16(x: u16) -> i16
-    ensures { result ≡ signed_of 2 x }
+pub fn signed16(half: u16) -> i16
+    ensures { result ≡ signed_of 2 half }
 {
-    x.cast_signed()
+    half.cast_signed()
 }
 
-pub fn signed32(x: u32) -> i32
-    ensures { result ≡ signed_of 4 x }
+pub fn signed32(word: u32) -> i32
+    ensures { result ≡ signed_of 4 word }
 {
-    x.cast_signed()
+    word.cast_signed()
 }
 
 // Whether a count is negative, which one without a sign never is. That it has two bytes is told too, for the proof of its caller.

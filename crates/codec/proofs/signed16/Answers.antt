@@ -8,5 +8,5 @@ use Rattle.codec.proofs.signed16.Goals as goal
 pub returns : goal.returns
 unfolding signed_of
 returns c =
-    let fits : c.args.x < 2 ^ 16 = omega (arith, c.ranges) in
-    rw (c.cast_signed.ensures, of_z-to_z w16 c.args.x fits) refl
+    let fits : c.args.half < 2 ^ 16 = omega (arith, c.ranges) in
+    rw (c.cast_signed.ensures, of_z-to_z w16 c.args.half fits) refl

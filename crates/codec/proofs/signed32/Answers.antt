@@ -8,5 +8,5 @@ use Rattle.codec.proofs.signed32.Goals as goal
 pub returns : goal.returns
 unfolding signed_of
 returns c =
-    let fits : c.args.x < 2 ^ 32 = omega (arith, c.ranges) in
-    rw (c.cast_signed.ensures, of_z-to_z w32 c.args.x fits) refl
+    let fits : c.args.word < 2 ^ 32 = omega (arith, c.ranges) in
+    rw (c.cast_signed.ensures, of_z-to_z w32 c.args.word fits) refl

@@ -8,5 +8,5 @@ use Rattle.codec.proofs.signed8.Goals as goal
 pub returns : goal.returns
 unfolding signed_of
 returns c =
-    let fits : c.args.x < 2 ^ 8 = omega (arith, c.ranges) in
-    rw (c.cast_signed.ensures, of_z-to_z w8 c.args.x fits) refl
+    let fits : c.args.byte < 2 ^ 8 = omega (arith, c.ranges) in
+    rw (c.cast_signed.ensures, of_z-to_z w8 c.args.byte fits) refl
