@@ -1,4 +1,4 @@
-// The lines of a listing. Each has room for the longest.
+// The lines of a listing. Each has room for the longest. Like the writers that it calls, each takes the output and a place, and the place comes back advanced.
 ghost use Rattle.std.specs.Prelude.{◌+◌, ◌≤◌, ◌++◌, length};
 ghost use Rattle.protocol.specs.Stream.{refused};
 ghost use Rattle.listing.specs.Listing.{bad_line, end_line, end_told, frame_line, newline};

@@ -19,12 +19,12 @@ slice_bounds-put_bytes-end c =
     let fits : c.letters_in-n.result ≤ length c.name_of-name.result = rw c.letters_in-n.ensures (not_more c.name_of-name.result) in
     sym (length-take-le _ c.name_of-name.result fits)
 
-pub returns : goal.returns
-returns c =
+pub returns-clause-wrote : goal.returns-clause-wrote
+returns-clause-wrote c =
     let fits : c.letters_in-n.result ≤ length c.name_of-name.result = rw c.letters_in-n.ensures (not_more c.name_of-name.result) in
     let m = c.args.message in
     let name = c.name_of-name.ensures in
     let e : take c.letters_in-n.result c.name_of-name.result ≡ letters_of (name_of m) = rw (c.letters_in-n.ensures, name) (its_letters m) in
     let full = ap length name ∙ filled-length 20 (name_of m) in
     let n = length-take-le c.letters_in-n.result c.name_of-name.result fits in
-    let w = c.put_bytes.ensures.fits refl (omega (arith, fits, full, n)) in record { wrote = same e w; upper_bound = omega (arith, w.place, fits, full, n) }
+    same e (c.put_bytes.ensures.fits refl (omega (arith, fits, full, n)))
