@@ -1,4 +1,5 @@
 // An encoder for each kind, in the module of its Rust file. Everything is checked before the first byte is written.
+// The tests of the arguments are joined by `&`: `&&` is no plainer here, and was tried: its proofs split by which tests are skipped.
 #![tactic(auto)]
 
 pub mod cancel;

@@ -49,9 +49,9 @@ fn put_errors(out: &mut [u8], at: usize, codes: &[u8], lengths: &[u32], joined: 
 {
     let mut p = at;
     let mut rest = joined;
-    for (i, len) in lengths.iter().enumerate() {
+    for (code, len) in codes.iter().zip(lengths) {
         let (text, others) = rest.split_at(*len as usize);
-        p = put_byte(out, p, codes[i]);
+        p = put_byte(out, p, *code);
         p = put_text(out, p, text);
         rest = others;
     }
