@@ -1,9 +1,9 @@
 -- `encode::response::put_errors` meets its contract.
-use Prim.Native.Nat.{ℕ, ◌+◌, ◌*◌, ◌≤◌, ◌<◌}
+use Prim.Native.Nat.{◌+◌}
 use mathlib.Core.List.{◌++◌, ◌∷◌, []}
 use mathlib.Core.Path.{◌≡◌, refl, ap, ◌∙◌, sym}
 use native.Mathlib.Omega.{arith}
-use lib.ListN.{length, drop, get_or, length-append}
+use lib.ListN.{length, drop, length-append}
 use Rattle.std.proofs.Common.{rules}
 use Rattle.std.proofs.lemmas.Slice.Zip.{zip_turn, zip_end}
 use Rattle.std.specs.Iterator.Adapters.{zip_first, zip_second}
@@ -43,8 +43,7 @@ loop-code-preserved c = let q = c.loop-code in
     let u = c.put_byte-p.ensures.fits refl (omega (arith, cut, fits)) in
     let s = c.put_text-p.ensures.fits refl (omega (arith, cut, fits, u.place)) in
     let next : length (q.yielded ++ (c.in-Some.code, c.in-Some.len) ∷ []) ≡ length q.yielded + 1 = length-append q.yielded ((c.in-Some.code, c.in-Some.len) ∷ []) in
-    rw next
-    (
+    rw next (
       q.invariant.0,
       omega (arith, cut, u.place, s.place),
       omega arith,
