@@ -1,10 +1,9 @@
 -- An arm of a `match` on a kind's number is a row of the call's table: what its encoder promises is what the call promises.
 use Prim.Native.Nat.{ℕ}
 use mathlib.Core.List.{List, [], ◌∷◌, ◌++◌}
-use mathlib.Core.Option.{Option, some, none}
+use mathlib.Core.Option.{Option, some}
 use mathlib.Core.Path.{◌≡◌, refl, ap, ◌∙◌}
 use borrow.Author.Tests.{ne_eqb}
-use lib.ListN.{length}
 use Rattle.protocol.specs.Encoded as N
 use Rattle.protocol.specs.Encoded.{Encoded}
 use Rattle.protocol.specs.Encode.{Encodes}

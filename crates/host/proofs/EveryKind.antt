@@ -1,5 +1,5 @@
 -- Every row of the table of kinds can be asked for at the boundary: one test over all rows.
-use mathlib.Core.Bool.{Bool, true}
+use mathlib.Core.Bool.{true}
 use mathlib.Core.Path.{◌≡◌}
 use Rattle.protocol.specs.Bytes.{is_one_of}
 use Rattle.protocol.specs.Kinds.{Kind, Mode, modes, the_table}

@@ -2,13 +2,15 @@
 ghost use Rattle.std.specs.Prelude.{◌≤◌, ◌≡◌};
 ghost use Rattle.protocol.specs.Decode.{decode_of};
 ghost use Rattle.protocol.specs.Rules.{rules_of};
+ghost use Rattle.protocol.specs.Told.{decoded};
 ghost use Rattle.protocol.specs.Views.{kind_number, view};
 ghost use Rattle.protocol.specs.declared.Message.TheVariants as M;
 ghost use Rattle.host_layout.specs.LaidOut.{laid_out, numbers_of, own_number, record_out};
 
 use host_layout::shapes;
+use protocol::Message;
+use protocol::refusal::Unread;
 use protocol::response::{GssEncResponse, SslResponse};
-use protocol::{Decoded, Message};
 
 // A query's answers have a function of their own. Their numbers stand side by side: so the compiler makes one jump of the two matches.
 fn record(message: Message, n: usize) -> [usize; 16]
@@ -84,13 +86,12 @@ fn gss_number(answer: GssEncResponse) -> usize
 }
 
 // The record stands last: so the compiler needs one test the fewer for it.
-fn laid_out(decoded: Decoded) -> [usize; 16]
-    ensures { result ≡ laid_out decoded }
+fn laid_out(answer: Result<(Message, usize), Unread>) -> [usize; 16]
+    ensures { result ≡ laid_out (decoded answer) }
 {
-    match decoded {
-        Decoded::Refused(number, place) => shapes::refused(number, place),
-        Decoded::NeedMore => shapes::need_more(),
-        Decoded::Record(message, n) => record(message, n),
+    match answer {
+        Err(unread) => shapes::unread(unread),
+        Ok((message, n)) => record(message, n),
     }
 }
 

@@ -1,46 +1,46 @@
 // Encoding, for a host: one call for the kinds without a list, one for those with a list of numbers, values or strings, and one for a row's
-// description. A kind is told by its number; an encoder's answer is one number.
+// description. A kind is told by its number, and an encoder's answer is one number: the C interface.
 ghost use Rattle.std.specs.Prelude.{◌≡◌};
+ghost use Rattle.protocol.specs.Told.{encoded};
 ghost use Rattle.host.specs.Asked.{Answers, Chosen, answer_number, asked, asked_in, asked_lists, asked_row, bare_rows, gss_rows, ssl_rows};
 
 use encode::{cancel, copy, data, extendedquery, response, simplequery, startup, terminate};
-use protocol::Encoded;
 use protocol::data::FieldDescription;
-use protocol::refusal::TYPE_UNKNOWN;
+use protocol::refusal::{Refusal, Refused};
 use protocol::response::{GssEncResponse, SslResponse};
 
-fn answer_number(r: Encoded) -> usize
-    ensures { result ≡ answer_number r }
+fn answer_number(r: Result<usize, Refused>) -> usize
+    ensures { result ≡ answer_number (encoded r) }
 {
     match r {
-        Encoded::Done(n) => n,
-        Encoded::Refused(number, _) => 18446744073709551615 - number as usize,
+        Ok(n) => n,
+        Err(refused) => usize::MAX - refused.refusal.number() as usize,
     }
 }
 
-fn ssl(byte: u8, out: &mut [u8]) -> Encoded
-    ensures { Chosen (asked_in ssl_rows byte) out.old result out.new }
+fn ssl(byte: u8, out: &mut [u8]) -> Result<usize, Refused>
+    ensures { Chosen (asked_in ssl_rows byte) out.old (encoded result) out.new }
 {
     match byte {
         0 => response::ssl_response(SslResponse::Accept, out),
         1 => response::ssl_response(SslResponse::Refuse, out),
-        _ => Encoded::Refused(TYPE_UNKNOWN, 0),
+        _ => Err(Refusal::TypeUnknown.at(0)),
     }
 }
 
-fn gss(byte: u8, out: &mut [u8]) -> Encoded
-    ensures { Chosen (asked_in gss_rows byte) out.old result out.new }
+fn gss(byte: u8, out: &mut [u8]) -> Result<usize, Refused>
+    ensures { Chosen (asked_in gss_rows byte) out.old (encoded result) out.new }
 {
     match byte {
         0 => response::gss_enc_response(GssEncResponse::Accept, out),
         1 => response::gss_enc_response(GssEncResponse::Refuse, out),
-        _ => Encoded::Refused(TYPE_UNKNOWN, 0),
+        _ => Err(Refusal::TypeUnknown.at(0)),
     }
 }
 
 // The kinds with no field.
-fn bare(kind: usize, out: &mut [u8]) -> Encoded
-    ensures { Chosen (asked_in bare_rows kind) out.old result out.new }
+fn bare(kind: usize, out: &mut [u8]) -> Result<usize, Refused>
+    ensures { Chosen (asked_in bare_rows kind) out.old (encoded result) out.new }
 {
     match kind {
         6 => extendedquery::flush(out),
@@ -55,7 +55,7 @@ fn bare(kind: usize, out: &mut [u8]) -> Encoded
         32 => startup::ssl_request(out),
         33 => startup::gss_enc_request(out),
         35 => terminate::terminate(out),
-        _ => Encoded::Refused(TYPE_UNKNOWN, 0),
+        _ => Err(Refusal::TypeUnknown.at(0)),
     }
 }
 
@@ -68,8 +68,8 @@ fn plain(
     one: &[u8],
     two: &[u8],
     out: &mut [u8],
-) -> Encoded
-    ensures { Chosen (asked kind byte first second one.now two.now) out.old result out.new }
+) -> Result<usize, Refused>
+    ensures { Chosen (asked kind byte first second one.now two.now) out.old (encoded result) out.new }
 {
     match kind {
         3 => extendedquery::close(byte, one, out),
@@ -118,8 +118,8 @@ fn listed(
     formats: &[i16],
     results: &[i16],
     out: &mut [u8],
-) -> Encoded
-    ensures { Chosen (asked_lists kind format one.now two.now joined.now words.now lengths.now formats.now results.now) out.old result out.new }
+) -> Result<usize, Refused>
+    ensures { Chosen (asked_lists kind format one.now two.now joined.now words.now lengths.now formats.now results.now) out.old (encoded result) out.new }
 {
     match kind {
         1 => extendedquery::parse(one, two, words, out),
@@ -132,7 +132,7 @@ fn listed(
         25 => copy::copy_out_response(format, formats, out),
         26 => copy::copy_both_response(format, formats, out),
         31 => startup::startup(words, joined, out),
-        _ => Encoded::Refused(TYPE_UNKNOWN, 0),
+        _ => Err(Refusal::TypeUnknown.at(0)),
     }
 }
 

@@ -14,12 +14,16 @@ use Rattle.protocol.specs.declared.List.{List as ListSlot}
 use Rattle.protocol.specs.declared.Message.{Message}
 use Rattle.protocol.specs.declared.Span.{Span}
 use Rattle.protocol.specs.declared.data.FieldDescription.{FieldDescription}
+use Rattle.protocol.specs.declared.refusal.Unread.TheVariants as U
+use Rattle.protocol.specs.declared.refusal.Unread.{Unread}
 use Rattle.protocol.specs.Answers.{Answer, success, needs_more, refusal}
 use Rattle.protocol.specs.Bytes.{bits_of}
 use Rattle.protocol.specs.Each.{Each}
 use Rattle.protocol.specs.Fields as F
 use Rattle.protocol.specs.Fields.{Atom, AtomSlot, Field, Slot}
+use Rattle.protocol.specs.Found.{Found}
 use Rattle.protocol.specs.Kinds.{Kind}
+use Rattle.protocol.specs.Told.{number_of}
 use Rattle.protocol.specs.Views.{view}
 
 -- the first n numbers of some, zeros behind them
@@ -82,6 +86,11 @@ refused_out size number place = padded size (2 ∷ number ∷ place ∷ [])
 abbrev pub need_more_out : ℕ → List ℕ
 need_more_out size = padded size (1 ∷ [])
 
+-- why the code read nothing
+abbrev pub unread_out : Unread → List ℕ
+unread_out U.NeedMore = need_more_out 16
+unread_out (U.Refused r) = refused_out 16 (number_of r.refusal) r.place
+
 -- a record of a kind's number and its fields' numbers
 abbrev pub record_out : ℕ → List ℕ → List ℕ
 record_out n xs = padded 16 (0 ∷ 0 ∷ 0 ∷ n ∷ xs)
@@ -92,17 +101,21 @@ laid_out (D.Record m n) = record_out n (numbers_of m)
 laid_out D.NeedMore = need_more_out 16
 laid_out (D.Refused number place) = refused_out 16 number place
 
--- an element call: 16 numbers too, nothing consumed; from the fifth on the sort of the element and its numbers
-unfoldable pub element_out : Element → List ℕ
-element_out (E.Oid n) = record_out 0 (1 ∷ n ∷ [])
-element_out (E.Format z) = record_out 0 (2 ∷ signed z)
-element_out E.Null = record_out 0 (3 ∷ [])
-element_out (E.Value s) = record_out 0 (4 ∷ span s)
-element_out (E.Field d) = record_out 0 (5 ∷ field_numbers d)
-element_out (E.ErrorField c s) = record_out 0 (6 ∷ c ∷ span s)
-element_out (E.Pair n v) = record_out 0 (7 ∷ span n ++ span v)
-element_out E.NeedMore = need_more_out 16
-element_out (E.Refused number place) = refused_out 16 number place
+-- an element: its sort and its numbers
+unfoldable pub element_numbers : Element → List ℕ
+element_numbers (E.Oid n) = 1 ∷ n ∷ []
+element_numbers (E.Format z) = 2 ∷ signed z
+element_numbers E.Null = 3 ∷ []
+element_numbers (E.Value s) = 4 ∷ span s
+element_numbers (E.Field d) = 5 ∷ field_numbers d
+element_numbers (E.ErrorField c s) = 6 ∷ c ∷ span s
+element_numbers (E.Pair n v) = 7 ∷ span n ++ span v
+
+-- an element call: 16 numbers too, nothing consumed; from the fifth on those of the element
+unfoldable pub element_out : Found → List ℕ
+element_out (Found.Is e) = record_out 0 (element_numbers e)
+element_out Found.NeedMore = need_more_out 16
+element_out (Found.Refused number place) = refused_out 16 number place
 
 -- how a host reads the numbers of an answer: of one that is there, those from the fifth on and the bytes consumed
 unfoldable pub of_numbers : List ℕ → Answer (List ℕ)

@@ -1,10 +1,12 @@
-// An answer's row of 16 numbers, by the shape of its fields.
+// An answer's row of 16 numbers, by the shape of its fields. It is an array, and kinds are told by numbers: the C interface.
 ghost use Rattle.std.specs.Prelude.{[], ◌∷◌, ◌++◌, ◌≡◌};
 ghost use Rattle.protocol.specs.declared.Message.TheVariants as M;
-ghost use Rattle.host_layout.specs.LaidOut.{list, need_more_out, numbers_of, record_out, refused_out, signed, span};
+ghost use Rattle.protocol.specs.Told.{number_of};
+ghost use Rattle.host_layout.specs.LaidOut.{list, need_more_out, numbers_of, record_out, refused_out, signed, span, unread_out};
 
 use crate::bits::bits;
 use protocol::extendedquery::{Bind, Execute, Parse};
+use protocol::refusal::{Refused, Unread};
 use protocol::response::NotificationResponse;
 use protocol::{List, Span};
 
@@ -14,27 +16,22 @@ pub fn need_more() -> [usize; 16]
     [1, 0, 0, 0, 0, 0, 0, 0, 0, 0, 0, 0, 0, 0, 0, 0]
 }
 
-pub fn refused(number: u8, place: usize) -> [usize; 16]
-    ensures { result ≡ refused_out 16 number place }
+pub fn refused(refused: Refused) -> [usize; 16]
+    ensures { result ≡ refused_out 16 (number_of refused.refusal) refused.place }
 {
-    [
-        2,
-        number as usize,
-        place,
-        0,
-        0,
-        0,
-        0,
-        0,
-        0,
-        0,
-        0,
-        0,
-        0,
-        0,
-        0,
-        0,
-    ]
+    let number = refused.refusal.number() as usize;
+    let place = refused.place;
+    [2, number, place, 0, 0, 0, 0, 0, 0, 0, 0, 0, 0, 0, 0, 0]
+}
+
+// Why nothing was read.
+pub fn unread(unread: Unread) -> [usize; 16]
+    ensures { result ≡ unread_out unread }
+{
+    match unread {
+        Unread::NeedMore => need_more(),
+        Unread::Refused(r) => refused(r),
+    }
 }
 
 pub fn none(kind: usize, n: usize) -> [usize; 16]
@@ -49,10 +46,22 @@ pub fn one_number(kind: usize, n: usize, a: usize) -> [usize; 16]
     [0, 0, 0, n, kind, a, 0, 0, 0, 0, 0, 0, 0, 0, 0, 0]
 }
 
+fn two_numbers(kind: usize, n: usize, a: usize, b: usize) -> [usize; 16]
+    ensures { result ≡ record_out n (kind ∷ a ∷ b ∷ []) }
+{
+    [0, 0, 0, n, kind, a, b, 0, 0, 0, 0, 0, 0, 0, 0, 0]
+}
+
+fn three_numbers(kind: usize, n: usize, a: usize, b: usize, c: usize) -> [usize; 16]
+    ensures { result ≡ record_out n (kind ∷ a ∷ b ∷ c ∷ []) }
+{
+    [0, 0, 0, n, kind, a, b, c, 0, 0, 0, 0, 0, 0, 0, 0]
+}
+
 pub fn one_span(kind: usize, n: usize, s: Span) -> [usize; 16]
     ensures { result ≡ record_out n (kind ∷ span s) }
 {
-    [0, 0, 0, n, kind, s.start, s.len, 0, 0, 0, 0, 0, 0, 0, 0, 0]
+    two_numbers(kind, n, s.start, s.len)
 }
 
 // A name and a value: a parameter's status, a start-up argument.
@@ -82,43 +91,21 @@ pub fn two_spans(kind: usize, n: usize, name: Span, value: Span) -> [usize; 16]
 pub fn one_list(kind: usize, n: usize, l: List) -> [usize; 16]
     ensures { result ≡ record_out n (kind ∷ list l) }
 {
-    [
-        0, 0, 0, n, kind, l.start, l.count, 0, 0, 0, 0, 0, 0, 0, 0, 0,
-    ]
+    two_numbers(kind, n, l.start, l.count)
 }
 
 // Close and Describe; an error's field, with its code for the target.
 pub fn target(kind: usize, n: usize, target_type: u8, name: Span) -> [usize; 16]
     ensures { result ≡ record_out n (kind ∷ target_type ∷ span name) }
 {
-    [
-        0,
-        0,
-        0,
-        n,
-        kind,
-        target_type as usize,
-        name.start,
-        name.len,
-        0,
-        0,
-        0,
-        0,
-        0,
-        0,
-        0,
-        0,
-    ]
+    three_numbers(kind, n, target_type as usize, name.start, name.len)
 }
 
 // The copy responses.
 pub fn copy(kind: usize, n: usize, format: i8, l: List) -> [usize; 16]
     ensures { result ≡ record_out n (kind ∷ signed format ++ list l) }
 {
-    let format = bits(format as i32);
-    [
-        0, 0, 0, n, kind, format, l.start, l.count, 0, 0, 0, 0, 0, 0, 0, 0,
-    ]
+    three_numbers(kind, n, bits(format as i32), l.start, l.count)
 }
 
 pub fn parse(n: usize, m: Parse) -> [usize; 16]
@@ -180,9 +167,7 @@ pub fn execute(n: usize, m: Execute) -> [usize; 16]
 {
     let name = m.name;
     let max_rows = bits(m.max_rows);
-    [
-        0, 0, 0, n, 5, name.start, name.len, max_rows, 0, 0, 0, 0, 0, 0, 0, 0,
-    ]
+    three_numbers(5, n, name.start, name.len, max_rows)
 }
 
 pub fn notification(n: usize, m: NotificationResponse) -> [usize; 16]
@@ -215,7 +200,5 @@ pub fn notification(n: usize, m: NotificationResponse) -> [usize; 16]
 pub fn key(kind: usize, n: usize, pid: i32, secret_key: i32) -> [usize; 16]
     ensures { result ≡ record_out n (kind ∷ signed pid ++ signed secret_key) }
 {
-    let pid = bits(pid);
-    let secret_key = bits(secret_key);
-    [0, 0, 0, n, kind, pid, secret_key, 0, 0, 0, 0, 0, 0, 0, 0, 0]
+    two_numbers(kind, n, bits(pid), bits(secret_key))
 }

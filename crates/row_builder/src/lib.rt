@@ -104,12 +104,12 @@ impl Row {
         ensures { built result ≡ B.grow_of self n room.now }
     {
         let able = self.stands(room) & (self.columns < MOST_SIGNED);
-        if able {
-            let size = verdict(able, LARGE, self.size - 1 + n, room.len())?;
-            let columns = self.columns + 1;
-            return Ok(Row { columns, size });
+        if !able {
+            return Err(Refusal::NotRepresentable.at(0));
         }
-        Err(Refusal::NotRepresentable.at(0))
+        let size = verdict(able, LARGE, self.size - 1 + n, room.len())?;
+        let columns = self.columns + 1;
+        Ok(Row { columns, size })
     }
 
     // The row without its last column.

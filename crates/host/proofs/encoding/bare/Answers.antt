@@ -56,4 +56,4 @@ returns-in-35 c = arm bare_rows c.in-35.is c.terminate.ensures refl
 
 pub returns-in_default : goal.returns-in_default
 unfolding the_table
-returns-in_default c = unknown bare_rows _ (search rules)
+returns-in_default c = rw c.at.ensures (unknown bare_rows _ (search rules))

@@ -50,4 +50,4 @@ returns-in-31 c = arm ((list_rows c.args.format c.args.one.now c.args.two.now c.
 
 pub returns-in_default : goal.returns-in_default
 unfolding the_table
-returns-in_default c = unknown ((list_rows c.args.format c.args.one.now c.args.two.now c.args.joined.now c.args.words.now c.args.lengths.now c.args.formats.now c.args.results.now)) _ (search rules)
+returns-in_default c = rw c.at.ensures (unknown ((list_rows c.args.format c.args.one.now c.args.two.now c.args.joined.now c.args.words.now c.args.lengths.now c.args.formats.now c.args.results.now)) _ (search rules))

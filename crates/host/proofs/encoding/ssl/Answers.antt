@@ -16,4 +16,4 @@ returns-in-1 c = arm ssl_rows c.in-1.is c.ssl_response-in-1.ensures refl
 
 pub returns-in_default : goal.returns-in_default
 unfolding the_table
-returns-in_default c = unknown ssl_rows _ (search rules)
+returns-in_default c = rw c.at.ensures (unknown ssl_rows _ (search rules))

@@ -1,6 +1,7 @@
 -- `host_layout::shapes::execute` meets its contract: its number's bits are laid out.
 use mathlib.Core.Path.{refl}
 use mir.Syntax.{w32}
+use borrow.Author.Rules.{rules}
 use Rattle.protocol.specs.Kinds.{execute}
 use Rattle.protocol.specs.Views.{view}
 use Rattle.host_layout.specs.LaidOut.{numbers_of}
@@ -9,4 +10,4 @@ use Rattle.host_layout.proofs.shapes.execute.Goals as goal
 
 pub returns : goal.returns
 unfolding numbers_of view execute
-returns c = rw (← passed w32 c.args.m.max_rows c.struct_told-1.given.1.0.1 c.bits-max_rows.ensures) refl
+returns c = rw (c.three_numbers.ensures, ← passed w32 c.args.m.max_rows (search rules) c.bits-max_rows.ensures) refl
