@@ -16,7 +16,8 @@ pub trait EndedItem: Item {
     ghost grows: { (rules : RulesOf) (f : Bytes ℕ) → Grows rules Self.item f };
 }
 
-// The items until a zero byte stands in place of one. The walk is left at once at the first that is cut.
+// The items until a zero byte stands in place of one. Nothing before them tells how many there are, so the walk counts them. It is left at once at the first
+// that is cut.
 pub fn items<I: EndedItem>(rules: Rules, frame: &[u8], c: Cursor) -> Result<(List, Cursor), Refused>
     ensures { listed_read result ≡ read rules (ended I.item) frame.now c.at }
 {
