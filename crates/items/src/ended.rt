@@ -16,8 +16,8 @@ pub trait EndedItem: Item {
     ghost grows: { (rules : RulesOf) (f : Bytes ℕ) → Grows rules Self.item f };
 }
 
-// The items until a zero byte stands in place of one. Nothing before them tells how many there are, so the walk counts them. It is left at once at the first
-// that is cut.
+// The items until a zero byte stands in place of one. Nothing before them tells how many there are, so the walk counts them. It breaks with its outcome: that
+// byte, the frame's end, or at once the first item that is cut.
 pub fn items<I: EndedItem>(rules: Rules, frame: &[u8], c: Cursor) -> Result<(List, Cursor), Refused>
     ensures { listed_read result ≡ read rules (ended I.item) frame.now c.at }
 {
@@ -26,13 +26,17 @@ pub fn items<I: EndedItem>(rules: Rules, frame: &[u8], c: Cursor) -> Result<(Lis
     let mut count: usize = 0;
     loop {
         let Some((first, after)) = c.byte(frame) else {
-            return Err(Refusal::Cut.at(c.at));
+            break Err(Refusal::Cut.at(c.at));
         };
         if first == 0 {
-            return Ok((List { start, count }, after));
+            break Ok((List { start, count }, after));
         }
-        let (_, next) = I::read(rules, frame, c)?;
-        c = next;
-        count += 1;
+        match I::read(rules, frame, c) {
+            Ok((_, next)) => {
+                c = next;
+                count += 1;
+            }
+            Err(refused) => break Err(refused),
+        }
     }
 }
