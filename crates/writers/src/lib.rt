@@ -23,22 +23,22 @@ use scan::zero_from;
 
 // ---- the bits of a signed number, in two's complement
 
-pub fn bits8(x: i8) -> u8
-    ensures { result ≡ bits_of 1 x }
+pub fn bits8(byte: i8) -> u8
+    ensures { result ≡ bits_of 1 byte }
 {
-    x.cast_unsigned()
+    byte.cast_unsigned()
 }
 
-pub fn bits16(x: i16) -> u16
-    ensures { result ≡ bits_of 2 x }
+pub fn bits16(half: i16) -> u16
+    ensures { result ≡ bits_of 2 half }
 {
-    x.cast_unsigned()
+    half.cast_unsigned()
 }
 
-pub fn bits32(x: i32) -> u32
-    ensures { result ≡ bits_of 4 x }
+pub fn bits32(word: i32) -> u32
+    ensures { result ≡ bits_of 4 word }
 {
-    x.cast_unsigned()
+    word.cast_unsigned()
 }
 
 // ---- sizes, the scan for zero bytes, and the answer
@@ -103,18 +103,18 @@ fn store_bytes(out: &mut [u8], at: usize, s: &[u8]) -> usize
     end
 }
 
-fn store_half(out: &mut [u8], at: usize, x: u16) -> usize
+fn store_half(out: &mut [u8], at: usize, half: u16) -> usize
     requires { at + 2 ≤ length out.old }
-    ensures { Wrote out.old at (be 2 x) 2 out.new result }
+    ensures { Wrote out.old at (be 2 half) 2 out.new result }
 {
-    store_bytes(out, at, &x.to_be_bytes())
+    store_bytes(out, at, &half.to_be_bytes())
 }
 
-fn store_word(out: &mut [u8], at: usize, x: u32) -> usize
+fn store_word(out: &mut [u8], at: usize, word: u32) -> usize
     requires { at + 4 ≤ length out.old }
-    ensures { Wrote out.old at (be 4 x) 4 out.new result }
+    ensures { Wrote out.old at (be 4 word) 4 out.new result }
 {
-    store_bytes(out, at, &x.to_be_bytes())
+    store_bytes(out, at, &word.to_be_bytes())
 }
 
 // A number that stands in lists: of a fixed width, which is small, so that no list's size wraps.

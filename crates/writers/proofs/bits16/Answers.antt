@@ -5,4 +5,4 @@ use Rattle.writers.proofs.Signs.{bits_are, bits_of_lem}
 use Rattle.writers.proofs.bits16.Goals as goal
 
 pub returns : goal.returns
-returns c = bits_of_lem w16 2 c.args.x c.ranges.x (c.cast_unsigned.ensures ∙ bits_are w16 2 refl _)
+returns c = bits_of_lem w16 2 c.args.half c.ranges.half (c.cast_unsigned.ensures ∙ bits_are w16 2 refl _)

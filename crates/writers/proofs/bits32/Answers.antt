@@ -5,4 +5,4 @@ use Rattle.writers.proofs.Signs.{bits_are, bits_of_lem}
 use Rattle.writers.proofs.bits32.Goals as goal
 
 pub returns : goal.returns
-returns c = bits_of_lem w32 4 c.args.x c.ranges.x (c.cast_unsigned.ensures ∙ bits_are w32 4 refl _)
+returns c = bits_of_lem w32 4 c.args.word c.ranges.word (c.cast_unsigned.ensures ∙ bits_are w32 4 refl _)

@@ -5,4 +5,4 @@ use Rattle.writers.proofs.Signs.{bits_are, bits_of_lem}
 use Rattle.writers.proofs.bits8.Goals as goal
 
 pub returns : goal.returns
-returns c = bits_of_lem w8 1 c.args.x c.ranges.x (c.cast_unsigned.ensures ∙ bits_are w8 1 refl _)
+returns c = bits_of_lem w8 1 c.args.byte c.ranges.byte (c.cast_unsigned.ensures ∙ bits_are w8 1 refl _)

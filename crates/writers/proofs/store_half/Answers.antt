@@ -5,4 +5,4 @@ use Rattle.writers.proofs.Laws.{be2, wrote_as}
 use Rattle.writers.proofs.store_half.Goals as goal
 
 pub returns : goal.returns
-returns c = wrote_as c.store_bytes.ensures (c.to_be_bytes.ensures ∙ be2 c.args.x) (ap length c.to_be_bytes.ensures)
+returns c = wrote_as c.store_bytes.ensures (c.to_be_bytes.ensures ∙ be2 c.args.half) (ap length c.to_be_bytes.ensures)

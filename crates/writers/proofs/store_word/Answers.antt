@@ -5,4 +5,4 @@ use Rattle.writers.proofs.Laws.{be4, wrote_as}
 use Rattle.writers.proofs.store_word.Goals as goal
 
 pub returns : goal.returns
-returns c = wrote_as c.store_bytes.ensures (c.to_be_bytes.ensures ∙ be4 c.args.x) (ap length c.to_be_bytes.ensures)
+returns c = wrote_as c.store_bytes.ensures (c.to_be_bytes.ensures ∙ be4 c.args.word) (ap length c.to_be_bytes.ensures)
