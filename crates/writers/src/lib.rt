@@ -234,7 +234,8 @@ pub fn put_text(out: &mut [u8], at: usize, s: &[u8]) -> usize
     put_both(out, at, s, &[0])
 }
 
-// Three pairs of numbers, of four bytes and of two: those of a row's field.
+// Three pairs of numbers, of four bytes and of two: those of a row's field. They are parameters, since a struct of the six would be FieldDescription over
+// again, with the bits in place of the signed numbers.
 pub fn put_pairs(out: &mut [u8], at: usize, a: u32, b: u16, c: u32, d: u16, e: u32, f: u16) -> usize
     ensures { Put true out.old at (be 4 a ++ (be 2 b ++ (be 4 c ++ (be 2 d ++ (be 4 e ++ (be 2 f ++ [])))))) 18 out.new result }
 {
