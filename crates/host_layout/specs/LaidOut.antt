@@ -102,7 +102,7 @@ laid_out D.NeedMore = need_more_out 16
 laid_out (D.Refused number place) = refused_out 16 number place
 
 -- an element: its sort and its numbers
-unfoldable pub element_numbers : Element → List ℕ
+abbrev pub element_numbers : Element → List ℕ
 element_numbers (E.Oid n) = 1 ∷ n ∷ []
 element_numbers (E.Format z) = 2 ∷ signed z
 element_numbers E.Null = 3 ∷ []

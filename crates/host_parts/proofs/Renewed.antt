@@ -3,7 +3,7 @@ use Prim.Native.Nat.{ℕ}
 use mathlib.Core.List.{List}
 use mathlib.Core.Path.{◌≡◌}
 use Rattle.row_builder.specs.Building.{left_by}
-use Rattle.row_builder.specs.declared.Built.{Built}
+use Rattle.row_builder.specs.Built.{Built}
 use Rattle.host_parts.specs.Built.{Renews, number_of, row_numbers}
 
 pub renews : {built definition : Built} {p r : ℕ} {xs row₀ row₁ room₀ room₁ : List ℕ} → (built ≡ definition) × (room₁ ≡ left_by built p xs room₀)

@@ -4,8 +4,8 @@ use Rattle.protocol.specs.Encoded as N
 use Rattle.protocol.specs.Encoded.{Encoded}
 use Rattle.protocol.specs.Answers.{Answer, success, refusal}
 use Rattle.row_builder.specs.Building.{left_by}
-use Rattle.row_builder.specs.declared.Built.TheVariants as B
-use Rattle.row_builder.specs.declared.Built.{Built}
+use Rattle.row_builder.specs.Built as B
+use Rattle.row_builder.specs.Built.{Built}
 use Rattle.row_builder.specs.declared.Row.{Row}
 
 -- the row that two numbers are: its columns, its size

@@ -10,8 +10,8 @@ use Rattle.protocol.specs.Kinds.{data_row, error_field, pair}
 use Rattle.protocol.specs.Reading.{Read, got, bad}
 use Rattle.protocol.specs.Rules.{rules_of}
 use Rattle.reader.specs.Row.{lengths_of, over, places_in, row_by, starts_of}
-use Rattle.reader.specs.declared.row.Row.TheVariants as R
-use Rattle.reader.specs.declared.row.Row.{Row}
+use Rattle.reader.specs.RowAnswer as R
+use Rattle.reader.specs.RowAnswer.{Row}
 use Rattle.host_layout.specs.LaidOut.{field_numbers, list, need_more_out, record_out, refused_out, span}
 
 -- a value as an element is, with the next place for the bytes consumed

@@ -1,13 +1,13 @@
 // A row that is built column by column, for a host: the row is two numbers, its columns and its size, which a successful call renews. The
-// answer is 0, or the refusal's number; its place is always 0.
+// answer is 0, or the refusal's number; its place is always 0. Both are the C interface.
 ghost use Rattle.std.specs.Prelude.{[], ◌≡◌};
 ghost use Rattle.std.proofs.Math.Option.{none, some};
 ghost use Rattle.protocol.specs.Fields.{value_bytes};
-ghost use Rattle.row_builder.specs.Building.{append_of, begin_of, drop_of, finish_of};
+ghost use Rattle.row_builder.specs.Building.{append_of, begin_of, built, drop_of, finish_of};
 ghost use Rattle.host_parts.specs.Built.{Renews, number_of, refusal_of, row_at, row_numbers};
 
-use protocol::Encoded;
-use row_builder::{Built, Row};
+use protocol::refusal::Refused;
+use row_builder::Row;
 
 // The row that two numbers are.
 fn row_at(row: &[usize; 2]) -> Row
@@ -19,15 +19,15 @@ fn row_at(row: &[usize; 2]) -> Row
     }
 }
 
-fn renewed(built: Built, row: &mut [usize; 2]) -> u8
-    ensures { (result ≡ number_of built) × (row.new ≡ row_numbers built row.old) }
+fn renewed(answer: Result<Row, Refused>, row: &mut [usize; 2]) -> u8
+    ensures { (result ≡ number_of (built answer)) × (row.new ≡ row_numbers (built answer) row.old) }
 {
-    match built {
-        Built::Is(next) => {
+    match answer {
+        Ok(next) => {
             *row = [next.columns, next.size];
             0
         }
-        Built::Refused(number, _) => number,
+        Err(refused) => refused.refusal.number(),
     }
 }
 
@@ -69,7 +69,7 @@ pub extern "C" fn tusweram_row_finish(row: &[usize; 2], room: &[u8]) -> u8
     ensures { result ≡ refusal_of (finish_of (row_at row.now) room.now) }
 {
     match row_builder::finish(row_at(row), room) {
-        Encoded::Done(_) => 0,
-        Encoded::Refused(number, _) => number,
+        Ok(_) => 0,
+        Err(unfinished) => unfinished.refusal.number(),
     }
 }

@@ -5,18 +5,16 @@ ghost use Rattle.protocol.specs.Elements.{element_of};
 ghost use Rattle.protocol.specs.Kinds as K;
 ghost use Rattle.protocol.specs.Reading.{and_then, got, read_item};
 ghost use Rattle.protocol.specs.Rules.{rules_of};
-ghost use Rattle.items.specs.ItemRead.{error_read, field_read, pair_read};
-ghost use Rattle.host_layout.specs.LaidOut.{element_out, field_numbers, record_out};
+ghost use Rattle.host_layout.specs.LaidOut.{element_numbers, element_out, field_numbers, record_out};
 ghost use Rattle.host_parts.specs.Reads.{error_field_out, field_out, pair_out};
 
 use codec::Cursor;
 use host_layout::bits::bits;
 use host_layout::shapes;
-use items::data::{FieldStep, field_description};
-use items::response::{ErrorStep, error_field};
-use items::startup::{PairStep, pair};
+use items::data::field_description;
+use items::response::error_field;
+use items::startup::pair;
 use protocol::data::FieldDescription;
-use protocol::refusal::CUT;
 use protocol::{Element, rules_of};
 
 // A narrow number's bits, as those of a wide one.
@@ -56,7 +54,7 @@ fn field(n: usize, d: FieldDescription) -> [usize; 16]
 }
 
 fn laid_out(element: Element) -> [usize; 16]
-    ensures { result ≡ element_out element }
+    ensures { result ≡ record_out 0 (element_numbers element) }
 {
     match element {
         Element::Oid(oid) => shapes::one_number(1, 0, oid as usize),
@@ -66,8 +64,6 @@ fn laid_out(element: Element) -> [usize; 16]
         Element::Field(d) => field(0, d),
         Element::ErrorField(code, text) => shapes::target(6, 0, code, text),
         Element::Pair(name, value) => shapes::two_spans(7, 0, name, value),
-        Element::NeedMore => shapes::need_more(),
-        Element::Refused(number, place) => shapes::refused(number, place),
     }
 }
 
@@ -82,33 +78,22 @@ pub extern "C" fn tusweram_element(
 )
     ensures { out.new ≡ element_out (element_of (rules_of mode) buf.now list number) }
 {
-    *out = laid_out(element::element(mode, buf, list, number));
+    *out = match element::element(mode, buf, list, number) {
+        Ok(element) => laid_out(element),
+        Err(unread) => shapes::unread(unread),
+    };
 }
 
-fn field_numbers(step: FieldStep) -> [usize; 16]
-    ensures { result ≡ field_out (field_read step) }
-{
-    match step {
-        FieldStep::Is(d, next) => field(next.at, d),
-        FieldStep::Cut(place) => shapes::refused(CUT, place),
-    }
-}
-
-// The field of a row at a place of a frame, with the next place: all of a row's fields in one pass.
+// The field of a row at a place of a frame, with the next place: all of a row's fields in one pass. This and the next two lay out the one sort
+// that they read: an element, made of it first, would have to be told apart again.
 #[unsafe(no_mangle)]
 pub extern "C" fn tusweram_field(frame: &[u8], at: usize, out: &mut [usize; 16])
     ensures { out.new ≡ field_out (and_then (read_item (rules_of 1) K.row_field frame.now at) (λ s q. got (K.row_field_of s) q)) }
 {
-    *out = field_numbers(field_description(rules_of(1), frame, Cursor { at }));
-}
-
-fn error_numbers(step: ErrorStep) -> [usize; 16]
-    ensures { result ≡ error_field_out (error_read step) }
-{
-    match step {
-        ErrorStep::Is(code, text, next) => shapes::target(6, next.at, code, text),
-        ErrorStep::Cut(place) => shapes::refused(CUT, place),
-    }
+    *out = match field_description(rules_of(1), frame, Cursor { at }) {
+        Ok((d, next)) => field(next.at, d),
+        Err(refused) => shapes::refused(refused),
+    };
 }
 
 // The field of an error at a place of a frame, with the next place.
@@ -116,16 +101,10 @@ fn error_numbers(step: ErrorStep) -> [usize; 16]
 pub extern "C" fn tusweram_error_field(frame: &[u8], at: usize, out: &mut [usize; 16])
     ensures { out.new ≡ error_field_out (read_item (rules_of 1) K.error_field frame.now at) }
 {
-    *out = error_numbers(error_field(rules_of(1), frame, Cursor { at }));
-}
-
-fn pair_numbers(step: PairStep) -> [usize; 16]
-    ensures { result ≡ pair_out (pair_read step) }
-{
-    match step {
-        PairStep::Is(name, value, next) => shapes::two_spans(7, next.at, name, value),
-        PairStep::Cut(place) => shapes::refused(CUT, place),
-    }
+    *out = match error_field(rules_of(1), frame, Cursor { at }) {
+        Ok(((code, text), next)) => shapes::target(6, next.at, code, text),
+        Err(refused) => shapes::refused(refused),
+    };
 }
 
 // The start-up argument at a place of a frame, with the next place.
@@ -133,5 +112,8 @@ fn pair_numbers(step: PairStep) -> [usize; 16]
 pub extern "C" fn tusweram_pair(frame: &[u8], at: usize, out: &mut [usize; 16])
     ensures { out.new ≡ pair_out (read_item (rules_of 5) K.pair frame.now at) }
 {
-    *out = pair_numbers(pair(rules_of(5), frame, Cursor { at }));
+    *out = match pair(rules_of(5), frame, Cursor { at }) {
+        Ok(((name, value), next)) => shapes::two_spans(7, next.at, name, value),
+        Err(refused) => shapes::refused(refused),
+    };
 }

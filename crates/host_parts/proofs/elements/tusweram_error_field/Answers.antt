@@ -3,5 +3,10 @@ use mathlib.Core.Path.{ap, ◌∙◌}
 use Rattle.host_parts.specs.Reads.{error_field_out}
 use Rattle.host_parts.proofs.elements.tusweram_error_field.Goals as goal
 
-pub returns : goal.returns
-returns c = c.error_numbers.ensures ∙ ap error_field_out c.error_field.ensures
+pub returns-in-Ok : goal.returns-in-Ok
+unfolding error_field_out
+returns-in-Ok c = c.target.ensures ∙ ap error_field_out c.in-Ok.ensures
+
+pub returns-in-Err : goal.returns-in-Err
+unfolding error_field_out
+returns-in-Err c = c.refused.ensures ∙ ap error_field_out c.in-Err.ensures

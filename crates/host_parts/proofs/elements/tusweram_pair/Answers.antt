@@ -3,5 +3,10 @@ use mathlib.Core.Path.{ap, ◌∙◌}
 use Rattle.host_parts.specs.Reads.{pair_out}
 use Rattle.host_parts.proofs.elements.tusweram_pair.Goals as goal
 
-pub returns : goal.returns
-returns c = c.pair_numbers.ensures ∙ ap pair_out c.pair.ensures
+pub returns-in-Ok : goal.returns-in-Ok
+unfolding pair_out
+returns-in-Ok c = c.two_spans.ensures ∙ ap pair_out c.in-Ok.ensures
+
+pub returns-in-Err : goal.returns-in-Err
+unfolding pair_out
+returns-in-Err c = c.refused.ensures ∙ ap pair_out c.in-Err.ensures

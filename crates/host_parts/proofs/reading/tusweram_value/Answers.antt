@@ -3,5 +3,18 @@ use mathlib.Core.Path.{ap, ◌∙◌}
 use Rattle.host_parts.specs.Reads.{value_out}
 use Rattle.host_parts.proofs.reading.tusweram_value.Goals as goal
 
-pub returns : goal.returns
-returns c = c.value_numbers.ensures ∙ ap value_out c.value_at.ensures
+pub returns-in-Ok-Some-default : goal.returns-in-Ok-Some-default
+unfolding value_out
+returns-in-Ok-Some-default c =
+    let read = rw c.in-Ok-Some-default.field-0-0-is at c.in-Ok-Some-default.ensures in
+    c.one_span.ensures ∙ ap value_out read
+
+pub returns-in-Ok-None-default : goal.returns-in-Ok-None-default
+unfolding value_out
+returns-in-Ok-None-default c =
+    let read = rw c.in-Ok-None-default.field-0-0-is at c.in-Ok-None-default.ensures in
+    c.none.ensures ∙ ap value_out read
+
+pub returns-in-Err : goal.returns-in-Err
+unfolding value_out
+returns-in-Err c = c.refused.ensures ∙ ap value_out c.in-Err.ensures
