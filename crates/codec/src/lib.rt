@@ -24,7 +24,8 @@ const MOST: u16 = MOST_SIGNED as u16;
 const NULL: u32 = u32::MAX;
 
 // Each step goes from a cursor to the next one, and answers the field with it: None where the field is cut, so that its refusal's place is the cursor's own;
-// a refusal with its place where there are several.
+// a refusal with its place where there are several. A cursor is a
+// place alone: with the frame in it, each step's contract would have to say too that the next cursor has the same frame.
 #[derive(Clone, Copy, Debug, PartialEq, Eq)]
 pub struct Cursor {
     pub at: usize,

@@ -47,7 +47,7 @@ fn one_text(type_byte: u8, s: &[u8], out: &mut [u8]) -> Result<usize, Refused>
     Ok(n)
 }
 
-// ---- values, which come as lengths (-1 for NULL) and their joined bytes
+// ---- values, which come as lengths (-1 for NULL) and their joined bytes: so a host in C lends them, and an argument of an encoder is one of its exports
 
 // Their count; then the length of each, and its bytes.
 fn put_values(out: &mut [u8], at: usize, lengths: &[i32], joined: &[u8]) -> usize

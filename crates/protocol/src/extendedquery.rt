@@ -27,7 +27,7 @@ pub const MESSAGE_TYPE_BYTE_SYNC: u8 = kinds::SYNC.1 as u8;
 
 pub const MESSAGE_TYPE_BYTE_PORTAL_SUSPENDED: u8 = kinds::PORTAL_SUSPENDED.1 as u8;
 
-// What Close and Describe aim at: a prepared statement or a portal.
+// What Close and Describe aim at: a prepared statement or a portal. Records have the byte, as the Rust's do; an encoder takes any, and refuses the others.
 pub const TARGET_TYPE_BYTE_STATEMENT: u8 = b'S';
 
 pub const TARGET_TYPE_BYTE_PORTAL: u8 = b'P';

@@ -51,7 +51,8 @@ pub enum Count {
     Unsigned,
 }
 
-// What a frame is read by: the mode. A version or a check of texts is a further field here.
+// What a frame is read by: the mode, by the number that the caller names, which may be none (`Mode::try_from`). A version or a check of texts is a further field
+// here.
 #[derive(Clone, Copy, Debug, PartialEq, Eq)]
 pub struct Rules {
     pub mode: u8,

@@ -17,7 +17,7 @@ pub const MESSAGE_TYPE_BYTE_NOTICE_RESPONSE: u8 = kinds::NOTICE_RESPONSE.1 as u8
 
 pub const MESSAGE_TYPE_BYTE_NOTIFICATION_RESPONSE: u8 = kinds::NOTIFICATION_RESPONSE.1 as u8;
 
-// The three states of a transaction.
+// The three states of a transaction. A record has the byte, as the Rust's does; the encoder takes any, and refuses the others.
 pub const READY_STATUS_IDLE: u8 = b'I';
 
 pub const READY_STATUS_TRANSACTION_BLOCK: u8 = b'T';
