@@ -55,11 +55,11 @@ fn put_values(out: &mut [u8], at: usize, lengths: &[i32], joined: &[u8]) -> usiz
     ensures { WroteGiven (values unsigned_count) (values_given lengths.now joined.now) out.old at (2 + (4 * length lengths.now + length joined.now)) out.new result }
 {
     let mut p = put_half(out, at, lengths.len() as u16);
-    let mut start = 0;
+    let mut rest = joined;
     for len in lengths {
-        let end = start + size_of(*len);
-        p = put_value(out, p, bits32(*len), &joined[start..end]);
-        start = end;
+        let (value, others) = rest.split_at(size_of(*len));
+        p = put_value(out, p, bits32(*len), value);
+        rest = others;
     }
     p
 }

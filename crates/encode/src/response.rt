@@ -48,12 +48,12 @@ fn put_errors(out: &mut [u8], at: usize, codes: &[u8], lengths: &[u32], joined: 
     ensures { WroteGiven K.error_fields (error_fields_given codes.now lengths.now joined.now) out.old at (2 * length codes.now + length joined.now + 1) out.new result }
 {
     let mut p = at;
-    let mut start = 0;
+    let mut rest = joined;
     for (code, len) in codes.iter().zip(lengths) {
-        let end = start + *len as usize;
+        let (text, others) = rest.split_at(*len as usize);
         p = put_byte(out, p, *code);
-        p = put_text(out, p, &joined[start..end]);
-        start = end;
+        p = put_text(out, p, text);
+        rest = others;
     }
     put_byte(out, p, 0)
 }

@@ -25,11 +25,11 @@ fn put_parameters(out: &mut [u8], at: usize, lengths: &[u32], joined: &[u8]) -> 
     ensures { WroteGiven K.pairs (pairs_given lengths.now joined.now) out.old at (length lengths.now + length joined.now + 1) out.new result }
 {
     let mut p = at;
-    let mut start = 0;
+    let mut rest = joined;
     for len in lengths {
-        let end = start + *len as usize;
-        p = put_text(out, p, &joined[start..end]);
-        start = end;
+        let (text, others) = rest.split_at(*len as usize);
+        p = put_text(out, p, text);
+        rest = others;
     }
     put_byte(out, p, 0)
 }

@@ -1,11 +1,11 @@
 -- `encode::put_values` meets its contract.
-use Prim.Native.Nat.{ℕ, ◌+◌, ◌*◌, ◌-◌}
+use Prim.Native.Nat.{ℕ, ◌+◌, ◌*◌}
 use mathlib.Core.List.{List}
 use mathlib.Core.Path.{◌≡◌, refl, ap, ◌∙◌, sym}
 use native.Mathlib.Omega.{arith}
 use borrow.Author.Rules.{rules}
 use lib.IntN.{ℤ, pos}
-use lib.ListN.{length, get_or, drop, length-take, length-drop}
+use lib.ListN.{length, get_or, drop}
 use mir.Syntax.{w32}
 use mir.Val.{SFits}
 use mir.ValLaws.{to_z-of_z}
@@ -32,44 +32,33 @@ values-field zs bs w e at = record {
   place = omega (arith, w.place);
 }
 
-pub overflow_add-end : goal.overflow_add-end
-overflow_add-end c = let q = c.loop-len in
+pub split_at-requires : goal.split_at-requires
+split_at-requires c = let q = c.loop-len in
     let fits : SFits w32 (get_or c.args.lengths.now q.len-index (pos 0)) = search rules in
     let size = rw (to_z-of_z w32 _ fits) at c.size_of.ensures in
-    let t = rw (← size) at (value_turn c.args.lengths.now c.args.joined.now q.len-index q.start c.loop-len-test.true q.invariant.3) in
-    omega (arith, t.fits)
-
-pub slice_bounds-put_value-end : goal.slice_bounds-put_value-end
-slice_bounds-put_value-end c = let q = c.loop-len in
-    let fits : SFits w32 (get_or c.args.lengths.now q.len-index (pos 0)) = search rules in
-    let size = rw (to_z-of_z w32 _ fits) at c.size_of.ensures in
-    let t = rw (← size) at (value_turn c.args.lengths.now c.args.joined.now q.len-index q.start c.loop-len-test.true q.invariant.3) in
-    omega (arith, t.fits)
+    rw size (value_turn c.args.lengths.now q.rest.now q.len-index c.loop-len-test.true q.invariant.2).fits
 
 pub loop-len-preserved : goal.loop-len-preserved
 loop-len-preserved c = let q = c.loop-len in
     let zs = c.args.lengths.now in
-    let bs = c.args.joined.now in
-    let fits : SFits w32 (get_or c.args.lengths.now q.len-index (pos 0)) = search rules in
+    let fits : SFits w32 (get_or zs q.len-index (pos 0)) = search rules in
     let size = rw (to_z-of_z w32 _ fits) at c.size_of.ensures in
-    let t = rw (← size) at (value_turn c.args.lengths.now c.args.joined.now q.len-index q.start c.loop-len-test.true q.invariant.3) in
     let bits = rw (to_z-of_z w32 _ fits) at c.bits32.ensures in
-    let step = rw (← bits) at t.bytes in
+    let t = value_turn zs q.rest.now q.len-index c.loop-len-test.true q.invariant.2 in
+    let cut = c.split_at.ensures in
+    let step = rw (← bits, ← size, ← cut.front, ← cut.back) at t.bytes in
     let h = c.put_half-p.ensures.fits refl (omega (arith, c.requires.0)) in
-    let s = c.put_value-p.ensures.fits refl (simp (length-take, length-drop) (omega (arith, t.fits, h.place, same_size h))) in
-    let place = simp (length-take, length-drop) at s.place in (
-      omega (arith, t.fits),
-      omega (arith, t.fits, place),
+    let s = c.put_value-p.ensures.fits refl (omega (arith, cut, h.place, same_size h)) in (
+      omega (arith, cut, s.place),
       omega arith,
-      t.more,
-      turn (values_bytes (drop (q.len-index + 1) zs) (drop (q.start + c.size_of.result) bs)) s (ap (write q.out q.p) (sym step) ∙ q.invariant.4),
+      rw (cut.back, size) t.more,
+      turn (values_bytes (drop (q.len-index + 1) zs) c.split_at.result.1.now) s (ap (write q.out q.p) (sym step) ∙ q.invariant.3),
     )
 
 pub returns : goal.returns
 unfolding values_bytes
 returns c = let q = c.loop-len in
     let zs = c.args.lengths.now in
-    let bs = c.args.joined.now in
-    let all = value_end zs (drop q.start bs) q.len-index c.loop-len-test.false q.invariant.3 in
-    let none : length bs - q.start ≡ 0 = sym (length-drop q.start bs) ∙ ap length all.0 in
-    values-field zs bs (c.put_half-p.ensures.fits refl (omega arith)) (rw all.1 at q.invariant.4) (omega (arith, none))
+    let all = value_end zs q.rest.now q.len-index c.loop-len-test.false q.invariant.2 in
+    let none : length q.rest.now ≡ 0 = ap length all.0 in
+    values-field zs c.args.joined.now (c.put_half-p.ensures.fits refl (omega arith)) (rw all.1 at q.invariant.3) (omega (arith, none))
