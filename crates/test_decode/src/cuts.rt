@@ -1,147 +1,97 @@
 // One frame cut at each byte, and with one byte more, its length word mended each time.
 ghost use Rattle.std.specs.Prelude.{◌<◌, ◌≤◌};
 
-use crate::hex;
-use crate::hex::ROOM;
-use protocol::Decoded;
+use crate::case::ROOM;
+use protocol::refusal::Unread;
+use std::fmt;
 use test_cases::Output;
 
 // What decode answers of a frame that is cut. A whole record has consumed all its bytes.
-#[derive(Clone, Copy)]
+#[derive(Clone, Copy, PartialEq, Eq)]
 enum Verdict {
     Whole,
     Strange(usize),
-    NeedMore,
-    Refused(u8, usize),
+    Unread(Unread),
 }
 
-fn verdict_of(decoded: Decoded, total: usize) -> Verdict {
-    match decoded {
-        Decoded::Record(_, consumed) => {
-            if consumed == total {
-                Verdict::Whole
-            } else {
-                Verdict::Strange(consumed)
+impl fmt::Display for Verdict {
+    fn fmt<W: fmt::Write>(&self, f: &mut fmt::Formatter<W>) -> fmt::Result {
+        match *self {
+            Verdict::Whole => f.write_str("ok"),
+            Verdict::Strange(consumed) => write!(f, "WRONG consumed {consumed}"),
+            Verdict::Unread(Unread::NeedMore) => f.write_str("need-more"),
+            Verdict::Unread(Unread::Refused(refused)) => {
+                write!(f, "{}@{}", refused.refusal.number(), refused.place)
             }
-        }
-        Decoded::NeedMore => Verdict::NeedMore,
-        Decoded::Refused(number, place) => Verdict::Refused(number, place),
-    }
-}
-
-fn is_refused_as(verdict: Verdict, number: u8, place: usize) -> bool {
-    match verdict {
-        Verdict::Refused(n, p) => { if n == number { p == place } else { false } }
-        _ => false,
-    }
-}
-
-fn is_same(a: Verdict, b: Verdict) -> bool {
-    match a {
-        Verdict::Whole => match b {
-            Verdict::Whole => true,
-            _ => false,
-        },
-        Verdict::Strange(n) => match b {
-            Verdict::Strange(m) => n == m,
-            _ => false,
-        },
-        Verdict::NeedMore => match b {
-            Verdict::NeedMore => true,
-            _ => false,
-        },
-        Verdict::Refused(number, place) => is_refused_as(b, number, place),
-    }
-}
-
-fn write_verdict(to: &mut Output, verdict: Verdict) {
-    match verdict {
-        Verdict::Whole => test_cases::write(to, b" ok"),
-        Verdict::Strange(consumed) => {
-            test_cases::write(to, b" WRONG consumed ");
-            test_cases::write_number(to, consumed);
-        }
-        Verdict::NeedMore => test_cases::write(to, b" need-more"),
-        Verdict::Refused(number, place) => {
-            test_cases::write(to, b" ");
-            test_cases::write_number(to, number as usize);
-            test_cases::write(to, b"@");
-            test_cases::write_number(to, place);
         }
     }
 }
 
 // The totals from `first` to `last` have one verdict.
-fn write_run(to: &mut Output, first: usize, last: usize, verdict: Verdict) {
-    test_cases::write_number(to, first);
-    if first < last {
-        test_cases::write(to, b"-");
-        test_cases::write_number(to, last);
-    }
-    write_verdict(to, verdict);
+#[derive(Clone, Copy)]
+struct Run {
+    first: usize,
+    last: usize,
+    verdict: Verdict,
 }
 
-// The length word at `place` anew.
-fn with_length(frame: [u8; ROOM], place: usize, length: usize) -> [u8; ROOM]
-    requires { place ≤ 1 }
-{
-    let mut frame = frame;
-    frame[place] = 0;
-    frame[place + 1] = 0;
-    frame[place + 2] = (length / 256 % 256) as u8;
-    frame[place + 3] = (length % 256) as u8;
-    frame
-}
-
-// A frame cut to `total` bytes, with the length that says so. In modes 0 and 1 a type byte stands before the length word, which does not count it.
-fn mended(mode: u8, frame: [u8; ROOM], total: usize) -> [u8; ROOM]
-    requires { 0 < total }
-{
-    if mode < 2 {
-        with_length(frame, 1, total - 1)
-    } else {
-        with_length(frame, 0, total)
+impl fmt::Display for Run {
+    fn fmt<W: fmt::Write>(&self, f: &mut fmt::Formatter<W>) -> fmt::Result {
+        if self.first < self.last {
+            write!(f, "{}-{} {}", self.first, self.last, self.verdict)
+        } else {
+            write!(f, "{} {}", self.first, self.verdict)
+        }
     }
 }
 
-fn verdict_at(mode: u8, frame: [u8; ROOM], total: usize) -> Verdict
-    requires { 0 < total }
+// The frame cut to `total` bytes, with the length that says so. In modes 0 and 1 a type byte stands before the length word, which does not count it.
+fn verdict_at(mode: u8, room: &mut [u8; ROOM], total: usize) -> Verdict
+    requires { (0 < total) × (total ≤ 1024) }
 {
-    let cut = mended(mode, frame, total);
-    verdict_of(decode::decode(mode, hex::first(&cut, total)), total)
+    let (place, length) = if mode < 2 { (1, total - 1) } else { (0, total) };
+    room[place..place + 4].copy_from_slice(&(length as u32).to_be_bytes());
+    match decode::decode(mode, &room[..total]) {
+        Ok((_, consumed)) if consumed == total => Verdict::Whole,
+        Ok((_, consumed)) => Verdict::Strange(consumed),
+        Err(unread) => Verdict::Unread(unread),
+    }
 }
 
 // The answers of `first` to `last` bytes, in runs of equal ones.
-fn write_runs(to: &mut Output, mode: u8, frame: [u8; ROOM], first: usize, last: usize)
-    requires { 0 < first }
+fn write_runs(to: &mut Output, mode: u8, room: &mut [u8; ROOM], first: usize, last: usize)
+    requires { (0 < first) × ((first ≤ 1024) × (last ≤ 1024)) }
 {
-    let mut run_start = first;
-    let mut run_verdict = verdict_at(mode, frame, first);
-    let mut total = first;
-    while total < last {
-        total += 1;
-        let verdict = verdict_at(mode, frame, total);
-        if !is_same(run_verdict, verdict) {
-            write_run(to, run_start, total - 1, run_verdict);
-            test_cases::write(to, b", ");
-            run_start = total;
-            run_verdict = verdict;
+    let verdict = verdict_at(mode, room, first);
+    let mut run = Run {
+        first,
+        last: first,
+        verdict,
+    };
+    for total in first + 1..=last {
+        let verdict = verdict_at(mode, room, total);
+        if verdict != run.verdict {
+            write!(to, "{run}, ");
+            run = Run {
+                first: total,
+                last: total,
+                verdict,
+            };
         }
+        run.last = total;
     }
-    write_run(to, run_start, total, run_verdict);
+    write!(to, "{run}");
 }
 
 // From the header alone to one byte more than the frame has: behind the bytes that were given stand zeros.
-pub fn write_cuts(to: &mut Output, mode: u8, frame: [u8; ROOM], count: usize) {
+pub fn write_cuts(to: &mut Output, mode: u8, room: &mut [u8; ROOM], count: usize) {
     if ROOM <= count {
-        test_cases::write(to, b"no room for one byte more");
+        write!(to, "no room for one byte more");
         return;
     }
     match mode {
-        0 => write_runs(to, mode, frame, 5, count + 1),
-        1 => write_runs(to, mode, frame, 5, count + 1),
-        2 => write_runs(to, mode, frame, 8, count + 1),
-        5 => write_runs(to, mode, frame, 8, count + 1),
-        _ => test_cases::write(to, b"no length to mend"),
+        0 | 1 => write_runs(to, mode, room, 5, count + 1),
+        2 | 5 => write_runs(to, mode, room, 8, count + 1),
+        _ => write!(to, "no length to mend"),
     }
 }

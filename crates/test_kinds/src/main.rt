@@ -8,12 +8,14 @@ mod checks;
 mod tables;
 
 use std::io;
-use test_cases::{Output, write};
+use test_cases::Output;
 
 fn main(rt: HostRuntime) -> io::Result<()> {
     let mut to = Output::new(rt)?;
-    write(&mut to, b"mode kind type smallest limit number\n");
-    tables::write_tables(&mut to);
+    writeln!(to, "mode kind type smallest limit number");
+    for mode in 0..6 {
+        tables::write_table(&mut to, mode);
+    }
     checks::no_other_mode(&mut to);
     checks::every_byte(&mut to, 0);
     checks::every_byte(&mut to, 1);

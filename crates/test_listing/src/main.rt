@@ -6,155 +6,142 @@ ghost use Rattle.std.specs.Prelude.{◌≤◌};
 
 use listing::Left;
 use std::{env, io};
-use test_cases::{Output, write, write_number};
+use test_cases::{Output, case};
 
+// The longest input of all, and the longest that an argument gives.
 const ROOM: usize = 65538;
 
-fn is_left(left: Left) -> bool {
-    match left {
-        Left::Nothing => false,
-        _ => true,
-    }
-}
+const ARGUMENT: usize = 512;
 
+// A page has room for one line.
+const PAGE: usize = 64;
+
+// A letter that is no digit counts 0.
 fn digit(letter: u8) -> u8
     ensures { result ≤ 15 }
 {
-    match letter {
-        b'0'..=b'9' => letter - b'0',
-        b'A'..=b'F' => letter - b'A' + 10,
-        _ => 0,
-    }
+    case::digit(letter).unwrap_or(0)
 }
 
 // The bytes that the digits of `text` are, as many as there is room for.
-fn read_hex(text: &[u8], room: &mut [u8; 512]) -> usize {
-    let mut count: usize = 0;
-    while count < text.len() / 2 {
-        if 512 <= count {
-            break;
-        }
-        room[count] = digit(text[count * 2]) * 16 + digit(text[count * 2 + 1]);
-        count += 1;
+fn read_hex<'a>(text: &[u8], room: &'a mut [u8; ARGUMENT]) -> &'a [u8] {
+    let (pairs, _) = text.as_chunks::<2>();
+    let count = pairs.len().min(ARGUMENT);
+    let bytes = &mut room[..count];
+    for (byte, [high, low]) in bytes.iter_mut().zip(pairs) {
+        *byte = digit(*high) * 16 + digit(*low);
     }
-    count
+    bytes
+}
+
+// A page of a listing: its first `count` bytes.
+#[derive(Clone, Copy)]
+struct Page {
+    room: [u8; PAGE],
+    count: usize,
+}
+
+impl Page {
+    fn empty() -> Page {
+        Page {
+            room: [0; PAGE],
+            count: 0,
+        }
+    }
+
+    fn bytes(&self) -> &[u8] {
+        decode::part(&self.room, 0, self.count)
+    }
+}
+
+// Each page of an input's listing; and whether the listing ends. None has more pages than its input has bytes, and two.
+fn each_page<F: FnMut(Page)>(input: &[u8], mut use_page: F) -> bool
+    requires { F.IsAlwaysCallable use_page }
+{
+    let mut left = Left::All;
+    for _ in 0..input.len() + 2 {
+        let mut page = Page::empty();
+        let filled = listing::fill(input, left, &mut page.room);
+        page.count = filled.count;
+        use_page(page);
+        left = filled.left;
+        if left == Left::Nothing {
+            return true;
+        }
+    }
+    false
 }
 
 fn print(to: &mut Output, input: &[u8]) {
-    let mut left = Left::All;
-    for _ in 0..input.len() + 2 {
-        let mut page = [0u8; 64];
-        let filled = listing::fill(input, left, &mut page);
-        let count = filled.count;
-        write(to, decode::part(&page, 0, count));
-        left = filled.left;
-        if !is_left(left) {
-            return;
-        }
+    if !each_page(input, |page| to.write_all(page.bytes())) {
+        writeln!(to, "NOT ENDED");
     }
-    write(to, b"NOT ENDED\n");
 }
 
-fn wide(byte: u8) -> u64 {
-    byte as u64
-}
-
-fn sum(bytes: &[u8]) -> u64 {
-    let mut total: u64 = 0;
-    for i in 0..bytes.len() {
-        total = std::num::wrapping_add_u64(total, wide(bytes[i]));
-    }
-    total
+// The sum of the bytes and what came before them. It wraps.
+fn added(total: u64, bytes: &[u8]) -> u64 {
+    bytes
+        .iter()
+        .fold(total, |sum, byte| sum.wrapping_add(*byte as u64))
 }
 
 fn print_size(to: &mut Output, input: &[u8]) {
-    let mut left = Left::All;
-    let mut bytes: u64 = 0;
+    let mut size: usize = 0;
     let mut total: u64 = 0;
-    for _ in 0..input.len() + 2 {
-        let mut page = [0u8; 64];
-        let filled = listing::fill(input, left, &mut page);
-        let count = filled.count;
-        bytes = std::num::wrapping_add_u64(bytes, count as u64);
-        total = std::num::wrapping_add_u64(total, sum(decode::part(&page, 0, count)));
-        left = filled.left;
-        if !is_left(left) {
-            write_number(to, bytes as usize);
-            write(to, b" bytes, sum ");
-            write_number(to, total as usize);
-            write(to, b", last line ");
-            write(to, decode::part(&page, 0, count));
-            return;
-        }
+    let mut last = Page::empty();
+    let ended = each_page(input, |page| {
+        size = size.wrapping_add(page.count);
+        total = added(total, page.bytes());
+        last = page;
+    });
+    if ended {
+        write!(to, "{size} bytes, sum {total}, last line ");
+        to.write_all(last.bytes());
+    } else {
+        writeln!(to, "NOT ENDED");
     }
-    write(to, b"NOT ENDED\n");
-}
-
-fn full(byte: u8) -> [u8; ROOM] {
-    [byte; ROOM]
-}
-
-fn first_of(input: &[u8; ROOM], count: usize) -> &[u8] {
-    decode::part(input, 0, count)
 }
 
 // A digit for the mode, and then one byte over and over: `count` bytes in all.
 fn print_same(to: &mut Output, digit: u8, byte: u8, count: usize) {
-    let mut input = full(byte);
+    let mut input = [byte; ROOM];
     input[0] = digit;
-    print_size(to, first_of(&input, count));
+    print_size(to, decode::part(&input, 0, count));
 }
 
 // A CopyData of 65,536 bytes: its length is 65,535.
 fn print_large(to: &mut Output) {
-    let mut input = full(0);
-    input[0] = b'0';
-    input[1] = b'd';
-    input[4] = 255;
-    input[5] = 255;
-    print(to, first_of(&input, 65537));
-}
-
-// The first bytes of what was read.
-fn first(room: &[u8; 512], count: usize) -> &[u8] {
-    decode::part(room, 0, count)
+    let mut input = [0u8; ROOM];
+    input[..6].copy_from_slice(b"0d\0\0\xFF\xFF");
+    print(to, decode::part(&input, 0, 65537));
 }
 
 fn print_argument(to: &mut Output, argument: &[u8]) {
-    let kind = if argument.len() == 0 { 0 } else { argument[0] };
-    if kind == b'#' {
-        write(to, argument);
-        write(to, b"\n");
+    if argument.starts_with(b"#") {
+        to.write_all(argument);
+        writeln!(to);
         return;
     }
-    let mut room = [0u8; 512];
-    let count = read_hex(argument, &mut room);
-    print(to, first(&room, count));
-}
-
-// All but the program's name.
-fn print_arguments(to: &mut Output, arguments: env::Args) {
-    for argument in arguments.skip(1) {
-        print_argument(to, argument.as_bytes());
-    }
+    let mut room = [0u8; ARGUMENT];
+    print(to, read_hex(argument, &mut room));
 }
 
 fn main(rt: HostRuntime) -> io::Result<()> {
     let arguments = env::args(&rt)?;
     let mut to = Output::new(rt)?;
-    print_arguments(&mut to, arguments);
-    write(&mut to, b"# 65,536 answers of one byte\n");
+    // All but the program's name.
+    for argument in arguments.skip(1) {
+        print_argument(&mut to, argument.as_bytes());
+    }
+    writeln!(to, "# 65,536 answers of one byte");
     print_same(&mut to, b'3', b'S', 65537);
     print_same(&mut to, b'4', b'N', 65537);
-    write(&mut to, b"# one byte more\n");
+    writeln!(to, "# one byte more");
     print_same(&mut to, b'3', b'S', 65538);
     print_same(&mut to, b'5', b'S', 65538);
-    write(
-        &mut to,
-        b"# one byte more, and no mode: the mode is tested first\n",
-    );
+    writeln!(to, "# one byte more, and no mode: the mode is tested first");
     print_same(&mut to, b'6', b'S', 65538);
-    write(&mut to, b"# a frame of 65,536 bytes\n");
+    writeln!(to, "# a frame of 65,536 bytes");
     print_large(&mut to);
     to.finish()
 }

@@ -1,95 +1,75 @@
 // A step at a place of a frame: what the function of a slice and a place answers, and then what a reader sent there answers.
 use crate::through;
-use codec::{Byte, Cursor, Half, Text, Value, Word};
+use codec::Cursor;
 use protocol::Span;
+use protocol::refusal::{Refusal, Refused};
+use std::fmt;
 use test_cases::Output;
+use test_cases::shown::Shown;
 
-fn write_next(to: &mut Output, next: Cursor) {
-    test_cases::write(to, b" next ");
-    test_cases::write_number(to, next.at);
-}
+// A step that can only be cut: what is read, and the next place.
+#[derive(Clone, Copy)]
+struct Step<T>(Option<(T, Cursor)>);
 
-fn write_part(to: &mut Output, part: Span, next: Cursor) {
-    test_cases::write_span(to, part);
-    write_next(to, next);
-}
-
-fn write_read(to: &mut Output, n: usize, next: Cursor) {
-    test_cases::write_number(to, n);
-    write_next(to, next);
-}
-
-fn write_byte(to: &mut Output, byte: Byte) {
-    match byte {
-        Byte::Is(n, next) => write_read(to, n as usize, next),
-        Byte::Cut => test_cases::write(to, b"cut"),
-    }
-}
-
-fn write_half(to: &mut Output, half: Half) {
-    match half {
-        Half::Is(n, next) => write_read(to, n as usize, next),
-        Half::Cut => test_cases::write(to, b"cut"),
-    }
-}
-
-fn write_word(to: &mut Output, word: Word) {
-    match word {
-        Word::Is(n, next) => write_read(to, n as usize, next),
-        Word::Cut => test_cases::write(to, b"cut"),
-    }
-}
-
-fn write_string(to: &mut Output, string: Text) {
-    match string {
-        Text::Is(part, next) => write_part(to, part, next),
-        Text::Cut => test_cases::write(to, b"cut"),
-    }
-}
-
-fn write_value(to: &mut Output, value: Value) {
-    match value {
-        Value::Is(part, next) => write_part(to, part, next),
-        Value::Null(next) => {
-            test_cases::write(to, b"null");
-            write_next(to, next);
+impl<T: fmt::Display> fmt::Display for Step<T> {
+    fn fmt<W: fmt::Write>(&self, f: &mut fmt::Formatter<W>) -> fmt::Result {
+        match &self.0 {
+            Some((read, next)) => write!(f, "{read} next {}", next.at),
+            None => f.write_str("cut"),
         }
-        Value::Cut => test_cases::write(to, b"cut"),
-        Value::BelowNull => test_cases::write(to, b"below null"),
     }
 }
 
-fn write_by_reader(to: &mut Output) {
-    test_cases::write(to, b"; by a reader ");
+fn string(step: Option<(Span, Cursor)>) -> Step<Shown<Span>> {
+    Step(step.map(|(span, next)| (Shown(span), next)))
 }
 
-pub fn answer(to: &mut Output, name: u8, frame: &[u8], at: usize) {
+#[derive(Clone, Copy)]
+struct Value(Result<(Option<Span>, Cursor), Refused>);
+
+impl fmt::Display for Value {
+    fn fmt<W: fmt::Write>(&self, f: &mut fmt::Formatter<W>) -> fmt::Result {
+        match self.0 {
+            Ok((Some(value), next)) => write!(f, "{} next {}", Shown(value), next.at),
+            Ok((None, next)) => write!(f, "null next {}", next.at),
+            Err(refused) if refused.refusal == Refusal::Cut => f.write_str("cut"),
+            Err(_) => f.write_str("below null"),
+        }
+    }
+}
+
+fn write_both<D: fmt::Display + Drop>(to: &mut Output, direct: D, by_reader: D) -> Option<()> {
+    write!(to, "{direct}; by a reader {by_reader}");
+    Some(())
+}
+
+pub fn answer(to: &mut Output, name: u8, frame: &[u8], at: usize) -> Option<()> {
     match name {
-        b'b' => {
-            write_byte(to, reader::byte_at(frame, at));
-            write_by_reader(to);
-            write_byte(to, through::byte_through(frame, at));
-        }
-        b'h' => {
-            write_half(to, reader::half_at(frame, at));
-            write_by_reader(to);
-            write_half(to, through::half_through(frame, at));
-        }
-        b'w' => {
-            write_word(to, reader::word_at(frame, at));
-            write_by_reader(to);
-            write_word(to, through::word_through(frame, at));
-        }
-        b's' => {
-            write_string(to, reader::string_at(frame, at));
-            write_by_reader(to);
-            write_string(to, through::string_through(frame, at));
-        }
-        b'v' => {
-            write_value(to, reader::value_at(frame, at));
-            write_by_reader(to);
-            write_value(to, through::value_through(frame, at));
-        }
-        _ => test_cases::write(to, b"malformed case"),
+        b'b' => write_both(
+            to,
+            Step(reader::byte_at(frame, at)),
+            Step(through::byte_through(frame, at)),
+        ),
+        b'h' => write_both(
+            to,
+            Step(reader::half_at(frame, at)),
+            Step(through::half_through(frame, at)),
+        ),
+        b'w' => write_both(
+            to,
+            Step(reader::word_at(frame, at)),
+            Step(through::word_through(frame, at)),
+        ),
+        b's' => write_both(
+            to,
+            string(reader::string_at(frame, at)),
+            string(through::string_through(frame, at)),
+        ),
+        b'v' => write_both(
+            to,
+            Value(reader::value_at(frame, at)),
+            Value(through::value_through(frame, at)),
+        ),
+        _ => None,
     }
 }

@@ -1,31 +1,29 @@
 // How to call the library: README shows this code, and the gate runs it.
 #![tactic(auto)]
 
-use protocol::{Decoded, Element, Encoded, Message};
-use row_builder::Built;
+use protocol::refusal::{Refused, Unread};
+use protocol::{Element, Message};
 use std::io;
 
 fn say(rt: &impl Print, words: &[u8]) -> io::Result<()> {
     rt.write_all(words)
 }
 
-fn say_refused(rt: &impl Print, number: u8, place: usize) -> io::Result<()> {
-    println!(rt; "refused {number} at {place}")
+fn say_refused(rt: &impl Print, refused: Refused) -> io::Result<()> {
+    println!(rt; "refused {} at {}", refused.refusal.number(), refused.place)
 }
 
 // Prints the query of the Parse at the buffer's start.
 fn print_query(rt: &impl Print, buf: &[u8]) -> io::Result<()> {
     match decode::decode(0, buf) {
-        Decoded::Record(message, _) => {
-            let Message::Parse(parse) = message else {
-                return say(rt, b"another message\n");
-            };
+        Ok((Message::Parse(parse), _)) => {
             let query = parse.query;
             say(rt, decode::part(buf, query.start, query.len))?;
             say(rt, b"\n")
         }
-        Decoded::NeedMore => say(rt, b"the frame's end has not arrived\n"),
-        Decoded::Refused(number, place) => say_refused(rt, number, place),
+        Ok(_) => say(rt, b"another message\n"),
+        Err(Unread::NeedMore) => say(rt, b"the frame's end has not arrived\n"),
+        Err(Unread::Refused(refused)) => say_refused(rt, refused),
     }
 }
 
@@ -37,7 +35,7 @@ fn print_value(rt: &impl Print, buf: &[u8], number: usize) -> io::Result<()> {
 
 // Prints the first oid of the Parse at the buffer's start.
 fn print_oid(rt: &impl Print, buf: &[u8]) -> io::Result<()> {
-    let Element::Oid(oid) = element::element(0, buf, 0, 0) else {
+    let Ok(Element::Oid(oid)) = element::element(0, buf, 0, 0) else {
         return say(rt, b"no such element\n");
     };
     println!(rt; "{oid}")
@@ -47,23 +45,23 @@ fn print_oid(rt: &impl Print, buf: &[u8]) -> io::Result<()> {
 fn write_and_read(rt: &impl Print, query: &[u8]) -> io::Result<()> {
     let mut out = [0u8; 64];
     match encode::extendedquery::parse(b"", query, &[23], &mut out) {
-        Encoded::Done(_) => print_query(rt, &out),
-        Encoded::Refused(number, place) => say_refused(rt, number, place),
+        Ok(_) => print_query(rt, &out),
+        Err(refused) => say_refused(rt, refused),
     }
 }
 
 // Builds a row of one value in a room of 32 bytes, and prints the size of its frame and the value.
 fn build_row(rt: &impl Print, value: &[u8]) -> io::Result<()> {
     let mut room = [0u8; 32];
-    let Built::Is(row) = row_builder::begin(&mut room) else {
+    let Ok(row) = row_builder::begin(&mut room) else {
         return say(rt, b"no room for a row\n");
     };
     match row_builder::append(row, &mut room, value) {
-        Built::Is(next) => {
+        Ok(next) => {
             println!(rt; "{} bytes", next.size)?;
             print_value(rt, &room, 0)
         }
-        Built::Refused(number, place) => say_refused(rt, number, place),
+        Err(refused) => say_refused(rt, refused),
     }
 }
 
