@@ -15,15 +15,18 @@ const CODES: u32 = 6 * LINES;
 fn check<F: Fn(u32) -> Option<u32>>(to: &mut Output, mode: u8, what: &str, most: u32, tag_at: F)
     requires { F.IsAlwaysCallable tag_at }
 {
-    let tried = (0..most).filter_map(&tag_at).count();
-    let in_table = (0..most)
-        .filter_map(&tag_at)
-        .filter(|tag| tables::find(mode, *tag).is_some())
-        .count();
-    let wrong = (0..most)
-        .filter_map(&tag_at)
-        .filter(|tag| !answers::is_right(to, mode, *tag))
-        .count();
+    let (mut tried, mut in_table, mut wrong): (usize, usize, usize) = (0, 0, 0);
+    for number in 0..most {
+        if let Some(tag) = tag_at(number) {
+            tried += 1;
+            if tables::find(mode, tag).is_some() {
+                in_table += 1;
+            }
+            if !answers::is_right(to, mode, tag) {
+                wrong += 1;
+            }
+        }
+    }
     write!(to, "mode {mode}: {tried} {what}, {in_table} in the table, ");
     if wrong == 0 {
         writeln!(to, "decoded as it says");

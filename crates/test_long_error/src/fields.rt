@@ -1,10 +1,8 @@
 // The fields that are given, and a pass over those that are read.
-ghost use Rattle.std.specs.Prelude.{◌≡◌, length};
-
 use codec::Cursor;
-use items::response::ErrorStep;
+use protocol::refusal::Refused;
 use protocol::{Span, rules_of};
-use test_cases::{Output, write, write_number};
+use test_cases::Output;
 
 pub const COUNT: usize = 40000;
 
@@ -14,18 +12,6 @@ pub const ROOM: usize = 120010;
 // Stands in every byte of an output before a call: what an encoder leaves is seen.
 pub const SPARE: u8 = 238;
 
-// The length is said, so that a part can be lent.
-pub fn spare() -> [u8; ROOM]
-    ensures { 120010 ≡ length result }
-{
-    [SPARE; ROOM]
-}
-
-// The first bytes, as a buffer that has no others.
-pub fn first(out: &[u8; ROOM], count: usize) -> &[u8] {
-    decode::part(out, 0, count)
-}
-
 fn code_of(i: usize) -> u8 {
     (1 + i % 255) as u8
 }
@@ -34,46 +20,58 @@ fn letter_of(i: usize) -> u8 {
     (1 + i % 251) as u8
 }
 
-pub fn fill(codes: &mut [u8; COUNT], joined: &mut [u8; COUNT]) {
-    for i in 0..COUNT {
-        codes[i] = code_of(i);
-        joined[i] = letter_of(i);
+// What the encoder is given: each field's code, its string's length, and all strings joined.
+#[derive(Drop)]
+pub struct Fields {
+    codes: [u8; COUNT],
+    lengths: [u32; COUNT],
+    joined: [u8; COUNT],
+}
+
+impl Fields {
+    pub fn new() -> Fields {
+        let mut codes = [0u8; COUNT];
+        let mut joined = [0u8; COUNT];
+        for (i, (code, letter)) in codes.iter_mut().zip(joined.iter_mut()).enumerate() {
+            *code = code_of(i);
+            *letter = letter_of(i);
+        }
+        Fields {
+            codes,
+            lengths: [1; COUNT],
+            joined,
+        }
+    }
+
+    // The error, written into an output.
+    pub fn write(&self, out: &mut [u8]) -> Result<usize, Refused> {
+        encode::response::error_response(&self.codes, &self.lengths, &self.joined, out)
     }
 }
 
-// Whether a string is the one byte of field i, at its place.
-fn is_string(frame: &[u8], i: usize, string: Span) -> bool {
+// Whether field i is read as it was given: its code, and its string of one byte, at its place.
+fn is_field(frame: &[u8], i: usize, code: u8, string: Span) -> bool {
+    let place = Span {
+        start: 6 + i * 3,
+        len: 1,
+    };
     let bytes = decode::part(frame, string.start, string.len);
-    if COUNT <= i {
-        return false;
-    }
-    if bytes.len() != 1 {
-        return false;
-    }
-    (bytes[0] == letter_of(i)) & (string.start == 6 + i * 3) & (string.len == 1)
+    code == code_of(i) && string == place && bytes == [letter_of(i)].as_slice()
 }
 
 // Each field by one call, from the place that the one before it gave.
 pub fn write_pass(to: &mut Output, frame: &[u8; ROOM]) {
-    let mut at: usize = 5;
+    let mut c = Cursor { at: 5 };
     let mut right: usize = 0;
     for i in 0..COUNT {
-        let ErrorStep::Is(code, string, next) = items::response::error_field(
-            rules_of(1),
-            frame,
-            Cursor { at },
-        ) else {
-            write(to, b"one pass: cut\n");
+        let Ok(((code, string), next)) = items::response::error_field(rules_of(1), frame, c) else {
+            writeln!(to, "one pass: cut");
             return;
         };
-        if (code == code_of(i)) & is_string(frame, i, string) & (next.at == 8 + i * 3) {
-            right = std::num::wrapping_add_usize(right, 1);
+        if is_field(frame, i, code, string) && next.at == 8 + i * 3 {
+            right += 1;
         }
-        at = next.at;
+        c = next;
     }
-    write(to, b"one pass: ");
-    write_number(to, right);
-    write(to, b" fields right, ended at ");
-    write_number(to, at);
-    write(to, b"\n");
+    writeln!(to, "one pass: {right} fields right, ended at {}", c.at);
 }

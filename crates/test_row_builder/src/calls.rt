@@ -1,43 +1,55 @@
-// Each call, with its answer in text. It gives the row that its caller keeps from then on: after a refusal and after `finish`, the one from before.
-use row_builder::{Built, Row};
-use test_cases::{Output, write, write_number};
+// Each call, with its answer in text.
+use row_builder::Row;
+use std::fmt;
+use test_cases::Output;
+use test_cases::shown::Shown;
 
 // Stands in every byte of a room before the first call: what a call leaves is seen.
 pub const SPARE: u8 = 238;
 
-fn kept(to: &mut Output, row: Row, built: Built) -> Row {
-    match built {
-        Built::Is(next) => {
-            write(to, b"row ");
-            write_number(to, next.columns);
-            write(to, b" ");
-            write_number(to, next.size);
-            next
-        }
-        Built::Refused(number, place) => {
-            test_cases::write_refused(to, number, place);
-            row
+#[derive(Clone, Copy)]
+pub enum Call<'a> {
+    Begin,
+    Append(&'a [u8]),
+    AppendNull,
+    DropLast,
+    Finish,
+}
+
+impl fmt::Display for Call<'_> {
+    fn fmt<W: fmt::Write>(&self, f: &mut fmt::Formatter<W>) -> fmt::Result {
+        match self {
+            Call::Begin => f.write_str("begin"),
+            Call::Append(value) => write!(f, "value of {}", value.len()),
+            Call::AppendNull => f.write_str("null"),
+            Call::DropLast => f.write_str("drop"),
+            Call::Finish => f.write_str("finish"),
         }
     }
 }
 
-pub fn begin(to: &mut Output, row: Row, room: &mut [u8]) -> Row {
-    kept(to, row, row_builder::begin(room))
-}
-
-pub fn append(to: &mut Output, row: Row, room: &mut [u8], value: &[u8]) -> Row {
-    kept(to, row, row_builder::append(row, room, value))
-}
-
-pub fn append_null(to: &mut Output, row: Row, room: &mut [u8]) -> Row {
-    kept(to, row, row_builder::append_null(row, room))
-}
-
-pub fn drop_last(to: &mut Output, row: Row, room: &mut [u8]) -> Row {
-    kept(to, row, row_builder::drop_last(row, room))
-}
-
-pub fn finish(to: &mut Output, row: Row, room: &[u8]) -> Row {
-    test_cases::write_encoded(to, row_builder::finish(row, room));
-    row
+impl Call<'_> {
+    // Calls, and gives the row that the caller keeps from then on: after a refusal and after `finish`, the one from before.
+    pub fn answer(self, to: &mut Output, row: Row, room: &mut [u8]) -> Row {
+        let built = match self {
+            Call::Begin => row_builder::begin(room),
+            Call::Append(value) => row_builder::append(row, room, value),
+            Call::AppendNull => row_builder::append_null(row, room),
+            Call::DropLast => row_builder::drop_last(row, room),
+            Call::Finish => {
+                write!(to, "{}", Shown(row_builder::finish(row, room)));
+                return row;
+            }
+        };
+        match built {
+            Ok(next) => {
+                write!(to, "row {} {}", next.columns, next.size);
+                next
+            }
+            Err(refused) => {
+                write!(to, "{}", Shown(refused));
+                row
+            }
+        }
+    }
 }

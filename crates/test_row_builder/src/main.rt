@@ -12,10 +12,10 @@ use std::io;
 use test_cases::Output;
 
 fn main(rt: HostRuntime) -> io::Result<()> {
-    let mut input = [0u8; 65536];
-    let count = test_cases::read_input(rt, &mut input)?;
+    let mut room = [0u8; 65536];
+    let input = test_cases::read_input(rt, &mut room)?;
     let mut to = Output::new(rt)?;
-    history::answer_each(&mut to, &input[..count]);
+    history::answer_each(&mut to, input);
     limit::answer_each(&mut to);
     columns::answer_each(&mut to);
     to.finish()
