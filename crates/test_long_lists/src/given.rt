@@ -18,36 +18,26 @@ fn length_of(i: usize) -> i32 {
     if i % 2 == 0 { 0 } else { -1 }
 }
 
-pub fn fill(
-    oids: &mut [u32; MOST_UNSIGNED],
-    formats: &mut [i16; MOST_UNSIGNED],
-    lengths: &mut [i32; MOST_UNSIGNED],
-) {
-    for i in 0..MOST_UNSIGNED {
-        oids[i] = oid_of(i);
-        formats[i] = format_of(i);
-        lengths[i] = length_of(i);
-    }
+// As many of each as the longest list has.
+#[derive(Drop)]
+pub struct Given {
+    pub oids: [u32; MOST_UNSIGNED],
+    pub formats: [i16; MOST_UNSIGNED],
+    pub lengths: [i32; MOST_UNSIGNED],
 }
 
-// The first `count` of them; none, where there are fewer.
-pub fn first_oids(oids: &[u32], count: usize) -> &[u32] {
-    if oids.len() < count {
-        return &oids[0..0];
+impl Given {
+    pub fn new() -> Given {
+        let mut given = Given {
+            oids: [0; MOST_UNSIGNED],
+            formats: [0; MOST_UNSIGNED],
+            lengths: [0; MOST_UNSIGNED],
+        };
+        for i in 0..MOST_UNSIGNED {
+            given.oids[i] = oid_of(i);
+            given.formats[i] = format_of(i);
+            given.lengths[i] = length_of(i);
+        }
+        given
     }
-    &oids[0..count]
-}
-
-pub fn first_formats(formats: &[i16], count: usize) -> &[i16] {
-    if formats.len() < count {
-        return &formats[0..0];
-    }
-    &formats[0..count]
-}
-
-pub fn first_lengths(lengths: &[i32], count: usize) -> &[i32] {
-    if lengths.len() < count {
-        return &lengths[0..0];
-    }
-    &lengths[0..count]
 }

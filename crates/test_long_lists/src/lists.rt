@@ -7,11 +7,15 @@
 //     ParameterDescription    7 + 4 * n bytes: 131,079 and 262,147
 // Behind a Bind's first formats stand two counts of 0, which are 4 bytes, and behind its values one. In a frame that is cut behind the list's last
 // element its count still fits: if there is a fault, it is the next count, which is cut (6). With one byte less it is the list's own count (5).
-use crate::{answers, given};
+use crate::answers;
+use crate::given::{Given, SPARE};
 use encode::{data, extendedquery};
-use protocol::Encoded;
 use protocol::kinds::{MOST_SIGNED, MOST_UNSIGNED};
-use test_cases::{Output, write, write_number};
+use protocol::refusal::Refused;
+use std::fmt;
+use test_cases::Output;
+use test_cases::case::first;
+use test_cases::shown::{Hex, Shown};
 
 // Room for the longest frame and seven bytes more.
 const ROOM: usize = 262160;
@@ -26,174 +30,124 @@ enum Which {
     Types,
 }
 
-fn write_name(to: &mut Output, which: Which) {
-    match which {
-        Which::TypeOids => write(to, b"Parse type_oids"),
-        Which::ParameterFormatCodes => write(to, b"Bind parameter_format_codes"),
-        Which::Parameters => write(to, b"Bind parameters"),
-        Which::ResultColumnFormatCodes => write(to, b"Bind result_column_format_codes"),
-        Which::Types => write(to, b"ParameterDescription types"),
+impl fmt::Display for Which {
+    fn fmt<W: fmt::Write>(&self, f: &mut fmt::Formatter<W>) -> fmt::Result {
+        f.write_str(match self {
+            Which::TypeOids => "Parse type_oids",
+            Which::ParameterFormatCodes => "Bind parameter_format_codes",
+            Which::Parameters => "Bind parameters",
+            Which::ResultColumnFormatCodes => "Bind result_column_format_codes",
+            Which::Types => "ParameterDescription types",
+        })
     }
 }
 
-fn mode_of(which: Which) -> u8 {
-    match which {
-        Which::Types => 1,
-        _ => 0,
+impl Which {
+    fn mode(self) -> u8 {
+        match self {
+            Which::Types => 1,
+            _ => 0,
+        }
+    }
+
+    // The list's number in an element call.
+    fn number(self) -> usize {
+        match self {
+            Which::Parameters => 1,
+            Which::ResultColumnFormatCodes => 2,
+            _ => 0,
+        }
+    }
+
+    fn count_place(self) -> usize {
+        match self {
+            Which::TypeOids => 9,
+            Which::ParameterFormatCodes => 7,
+            Which::Parameters => 9,
+            Which::ResultColumnFormatCodes => 11,
+            Which::Types => 5,
+        }
+    }
+
+    // How many bytes stand behind the list's last element.
+    fn bytes_behind(self) -> usize {
+        match self {
+            Which::ParameterFormatCodes => 4,
+            Which::Parameters => 2,
+            _ => 0,
+        }
+    }
+
+    // The frame of `count` elements.
+    fn encode(self, count: usize, given: &Given, out: &mut [u8]) -> Result<usize, Refused> {
+        let oids = first(&given.oids, count);
+        let formats = first(&given.formats, count);
+        let lengths = first(&given.lengths, count);
+        match self {
+            Which::TypeOids => extendedquery::parse(b"s", b"q", oids, out),
+            Which::ParameterFormatCodes => bind(formats, &[], &[], out),
+            Which::Parameters => bind(&[], lengths, &[], out),
+            Which::ResultColumnFormatCodes => bind(&[], &[], formats, out),
+            Which::Types => data::parameter_description(oids, out),
+        }
     }
 }
 
-// The list's number in an element call.
-fn number_of(which: Which) -> usize {
-    match which {
-        Which::Parameters => 1,
-        Which::ResultColumnFormatCodes => 2,
-        _ => 0,
-    }
-}
-
-fn count_place(which: Which) -> usize {
-    match which {
-        Which::TypeOids => 9,
-        Which::ParameterFormatCodes => 7,
-        Which::Parameters => 9,
-        Which::ResultColumnFormatCodes => 11,
-        Which::Types => 5,
-    }
-}
-
-// How many bytes stand behind the list's last element.
-fn bytes_behind(which: Which) -> usize {
-    match which {
-        Which::ParameterFormatCodes => 4,
-        Which::Parameters => 2,
-        _ => 0,
-    }
-}
-
-// A Bind with as many formats, values and results' formats.
+// A Bind without names, whose values have no bytes.
 fn bind(
-    format_count: usize,
-    value_count: usize,
-    result_count: usize,
     formats: &[i16],
     lengths: &[i32],
+    results: &[i16],
     out: &mut [u8],
-) -> Encoded {
-    extendedquery::bind(
-        b"",
-        b"",
-        given::first_formats(formats, format_count),
-        given::first_lengths(lengths, value_count),
-        b"",
-        given::first_formats(formats, result_count),
-        out,
-    )
-}
-
-fn encode_in(
-    which: Which,
-    count: usize,
-    oids: &[u32],
-    formats: &[i16],
-    lengths: &[i32],
-    out: &mut [u8],
-) -> Encoded {
-    match which {
-        Which::TypeOids => extendedquery::parse(b"s", b"q", given::first_oids(oids, count), out),
-        Which::ParameterFormatCodes => bind(count, 0, 0, formats, lengths, out),
-        Which::Parameters => bind(0, count, 0, formats, lengths, out),
-        Which::ResultColumnFormatCodes => bind(0, 0, count, formats, lengths, out),
-        Which::Types => data::parameter_description(given::first_oids(oids, count), out),
-    }
+) -> Result<usize, Refused> {
+    extendedquery::bind(b"", b"", formats, lengths, b"", results, out)
 }
 
 // The first, one in the middle, the last, and the one behind it, which there is not.
 fn write_elements(to: &mut Output, which: Which, frame: &[u8; ROOM], count: usize) {
-    let mode = mode_of(which);
-    let list = number_of(which);
-    answers::write_element(to, mode, frame, list, 0);
-    answers::write_element(to, mode, frame, list, count / 2);
-    answers::write_element(
-        to,
-        mode,
-        frame,
-        list,
-        std::num::wrapping_sub_usize(count, 1),
-    );
-    answers::write_element(to, mode, frame, list, count);
-}
-
-fn first_bytes(frame: &[u8; ROOM], size: usize) -> &[u8] {
-    decode::part(frame, 0, size)
+    for number in [0, count / 2, count.saturating_sub(1), count] {
+        answers::write_element(to, which.mode(), frame, which.number(), number);
+    }
 }
 
 // The frame's first `size` bytes, as a frame that says so: its length word, whose first byte stays 0, is one less.
-fn write_cut(to: &mut Output, which: Which, frame: [u8; ROOM], size: usize) {
-    let mut cut = frame;
-    let length = std::num::wrapping_sub_usize(size, 1);
-    cut[2] = (length / 65536 % 256) as u8;
-    cut[3] = (length / 256 % 256) as u8;
-    cut[4] = (length % 256) as u8;
-    write(to, b"cut to ");
-    write_number(to, size);
-    write(to, b": ");
-    answers::write_decoded(to, mode_of(which), first_bytes(&cut, size));
+fn write_cut(to: &mut Output, which: Which, frame: &[u8; ROOM], size: usize) {
+    let mut cut = *frame;
+    let [.., high, middle, low] = size.saturating_sub(1).to_be_bytes();
+    cut[2..5].copy_from_slice(&[high, middle, low]);
+    write!(to, "cut to {size}: ");
+    answers::write_decoded(to, which.mode(), decode::part(&cut, 0, size));
 }
 
-fn write_frame(to: &mut Output, which: Which, frame: [u8; ROOM], count: usize, size: usize) {
-    let end = std::num::wrapping_sub_usize(size, bytes_behind(which));
-    write(to, b", count");
-    test_cases::write_hex(to, decode::part(&frame, count_place(which), 2));
-    write(to, b"\n");
-    answers::write_decoded(to, mode_of(which), &frame);
-    write_elements(to, which, &frame, count);
+fn write_frame(to: &mut Output, which: Which, frame: &[u8; ROOM], count: usize, size: usize) {
+    let end = size.saturating_sub(which.bytes_behind());
+    writeln!(to, ", count{}", Hex(decode::part(frame, which.count_place(), 2)));
+    answers::write_decoded(to, which.mode(), frame);
+    write_elements(to, which, frame, count);
     write_cut(to, which, frame, end);
-    write_cut(to, which, frame, std::num::wrapping_sub_usize(end, 1));
+    write_cut(to, which, frame, end.saturating_sub(1));
 }
 
-fn answer(
-    to: &mut Output,
-    which: Which,
-    count: usize,
-    oids: &[u32; MOST_UNSIGNED],
-    formats: &[i16; MOST_UNSIGNED],
-    lengths: &[i32; MOST_UNSIGNED],
-) {
-    let mut out = [given::SPARE; ROOM];
-    let encoded = encode_in(which, count, oids, formats, lengths, &mut out);
-    write_name(to, which);
-    write(to, b" of ");
-    write_number(to, count);
-    write(to, b": ");
-    test_cases::write_encoded(to, encoded);
-    let Encoded::Done(size) = encoded else {
-        write(to, b"\n");
-        return;
-    };
-    write_frame(to, which, out, count, size);
+fn answer(to: &mut Output, which: Which, count: usize, given: &Given) {
+    let mut out = [SPARE; ROOM];
+    let encoded = which.encode(count, given, &mut out);
+    write!(to, "{which} of {count}: {}", Shown(encoded));
+    match encoded {
+        Ok(size) => write_frame(to, which, &out, count, size),
+        Err(_) => writeln!(to),
+    }
 }
 
-fn answer_both(
-    to: &mut Output,
-    which: Which,
-    oids: &[u32; MOST_UNSIGNED],
-    formats: &[i16; MOST_UNSIGNED],
-    lengths: &[i32; MOST_UNSIGNED],
-) {
-    answer(to, which, MOST_SIGNED + 1, oids, formats, lengths);
-    answer(to, which, MOST_UNSIGNED, oids, formats, lengths);
-}
-
-pub fn answer_each(
-    to: &mut Output,
-    oids: &[u32; MOST_UNSIGNED],
-    formats: &[i16; MOST_UNSIGNED],
-    lengths: &[i32; MOST_UNSIGNED],
-) {
-    answer_both(to, Which::TypeOids, oids, formats, lengths);
-    answer_both(to, Which::ParameterFormatCodes, oids, formats, lengths);
-    answer_both(to, Which::Parameters, oids, formats, lengths);
-    answer_both(to, Which::ResultColumnFormatCodes, oids, formats, lengths);
-    answer_both(to, Which::Types, oids, formats, lengths);
+pub fn answer_each(to: &mut Output, given: &Given) {
+    let lists = [
+        Which::TypeOids,
+        Which::ParameterFormatCodes,
+        Which::Parameters,
+        Which::ResultColumnFormatCodes,
+        Which::Types,
+    ];
+    for which in lists {
+        answer(to, which, MOST_SIGNED + 1, given);
+        answer(to, which, MOST_UNSIGNED, given);
+    }
 }

@@ -8,17 +8,13 @@ mod lists;
 mod signed;
 mod values;
 
-use protocol::kinds::MOST_UNSIGNED;
+use given::Given;
 use std::io;
 use test_cases::Output;
 
 fn main(rt: HostRuntime) -> io::Result<()> {
     let mut to = Output::new(rt)?;
-    let mut oids = [0u32; MOST_UNSIGNED];
-    let mut formats = [0i16; MOST_UNSIGNED];
-    let mut lengths = [0i32; MOST_UNSIGNED];
-    given::fill(&mut oids, &mut formats, &mut lengths);
-    lists::answer_each(&mut to, &oids, &formats, &lengths);
+    lists::answer_each(&mut to, &Given::new());
     signed::answer_each(&mut to);
     values::answer(&mut to);
     to.finish()

@@ -5,79 +5,75 @@
 // A copy response has a format before its count, at 6, and its length is 7 + 2 * n; the limit of 8,192 is reached with 4,092, at 8,191.
 use crate::answers;
 use protocol::kinds::{MOST_SIGNED, MOST_UNSIGNED, SMALL};
-use test_cases::{Output, write, write_number};
+use test_cases::Output;
 
 // Room for the longest frame and one byte more.
 const ROOM: usize = 622600;
 
-// A frame of zero bytes, but for its type byte, its length and its count.
-fn zeros(type_byte: u8, length: usize, count_place: usize, count: usize) -> [u8; ROOM] {
-    let mut out = [0u8; ROOM];
-    let at = count_place % 8;
-    out[0] = type_byte;
-    out[2] = (length / 65536 % 256) as u8;
-    out[3] = (length / 256 % 256) as u8;
-    out[4] = (length % 256) as u8;
-    out[at] = (count / 256 % 256) as u8;
-    out[at + 1] = (count % 256) as u8;
-    out
+// The largest count that a signed word can tell, the one above it, and the largest of all.
+const MOST: u16 = MOST_SIGNED as u16;
+
+const NEGATIVE: u16 = MOST + 1;
+
+const ALL: u16 = MOST_UNSIGNED as u16;
+
+#[derive(Clone, Copy, Debug)]
+enum Kind {
+    ParameterDescription,
+    DataRow,
+    RowDescription,
+    CopyInResponse,
+    CopyOutResponse,
+    CopyBothResponse,
 }
 
-fn answer(
-    to: &mut Output,
-    name: &[u8],
-    type_byte: u8,
-    length: usize,
-    count_place: usize,
-    count: usize,
-) {
-    let frame = zeros(type_byte, length, count_place, count);
-    write(to, name);
-    write(to, b" of ");
-    write_number(to, count);
-    write(to, b": ");
-    answers::write_decoded(to, 1, &frame);
+impl Kind {
+    fn type_byte(self) -> u8 {
+        match self {
+            Kind::ParameterDescription => b't',
+            Kind::DataRow => b'D',
+            Kind::RowDescription => b'T',
+            Kind::CopyInResponse => b'G',
+            Kind::CopyOutResponse => b'H',
+            Kind::CopyBothResponse => b'W',
+        }
+    }
+
+    fn has_format(self) -> bool {
+        matches!(
+            self,
+            Kind::CopyInResponse | Kind::CopyOutResponse | Kind::CopyBothResponse
+        )
+    }
+
+    // A frame of zero bytes, but for its type byte, its length and its count.
+    fn zeros(self, length: u32, count: u16) -> [u8; ROOM] {
+        let mut frame = [0u8; ROOM];
+        let at = if self.has_format() { 6 } else { 5 };
+        frame[0] = self.type_byte();
+        frame[1..5].copy_from_slice(&length.to_be_bytes());
+        frame[at..at + 2].copy_from_slice(&count.to_be_bytes());
+        frame
+    }
 }
 
 // The same bytes as a ParameterDescription, whose count is unsigned, and as a DataRow; then rows, and copy responses.
 pub fn answer_each(to: &mut Output) {
-    answer(
-        to,
-        b"ParameterDescription",
-        b't',
-        131078,
-        5,
-        MOST_SIGNED + 1,
-    );
-    answer(to, b"DataRow", b'D', 131078, 5, MOST_SIGNED + 1);
-    answer(to, b"ParameterDescription", b't', 262146, 5, MOST_UNSIGNED);
-    answer(to, b"DataRow", b'D', 262146, 5, MOST_UNSIGNED);
-    answer(to, b"DataRow", b'D', 131074, 5, MOST_SIGNED);
-    answer(to, b"RowDescription", b'T', 622598, 5, MOST_SIGNED + 1);
-    answer(to, b"RowDescription", b'T', 622579, 5, MOST_SIGNED);
-    answer(to, b"CopyInResponse", b'G', 8191, 6, 4092);
-    answer(
-        to,
-        b"CopyInResponse",
-        b'G',
-        SMALL as usize,
-        6,
-        MOST_SIGNED + 1,
-    );
-    answer(
-        to,
-        b"CopyOutResponse",
-        b'H',
-        SMALL as usize,
-        6,
-        MOST_SIGNED + 1,
-    );
-    answer(
-        to,
-        b"CopyBothResponse",
-        b'W',
-        SMALL as usize,
-        6,
-        MOST_UNSIGNED,
-    );
+    let frames = [
+        (Kind::ParameterDescription, 131078, NEGATIVE),
+        (Kind::DataRow, 131078, NEGATIVE),
+        (Kind::ParameterDescription, 262146, ALL),
+        (Kind::DataRow, 262146, ALL),
+        (Kind::DataRow, 131074, MOST),
+        (Kind::RowDescription, 622598, NEGATIVE),
+        (Kind::RowDescription, 622579, MOST),
+        (Kind::CopyInResponse, 8191, 4092),
+        (Kind::CopyInResponse, SMALL, NEGATIVE),
+        (Kind::CopyOutResponse, SMALL, NEGATIVE),
+        (Kind::CopyBothResponse, SMALL, ALL),
+    ];
+    for (kind, length, count) in frames {
+        write!(to, "{kind:?} of {count}: ");
+        answers::write_decoded(to, 1, &kind.zeros(length, count));
+    }
 }
