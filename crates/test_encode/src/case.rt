@@ -1,6 +1,7 @@
-// A case, read letter by letter: a kind's name, sizes, and sections, each a letter and its numbers. What has another form is malformed.
-
+// A case: a kind's name, sizes, and sections, each a letter and its numbers. What has another form is malformed.
+use crate::items::Items;
 use protocol::kinds::{LARGE_FRAME, MOST_UNSIGNED};
+use test_cases::case::digit;
 
 // The longest output, and the most bytes that are given: more than the largest frame.
 pub const ROOM: usize = LARGE_FRAME + 3;
@@ -8,301 +9,247 @@ pub const ROOM: usize = LARGE_FRAME + 3;
 // The most numbers that are given: one more than any list can have.
 pub const MANY: usize = MOST_UNSIGNED + 1;
 
-pub const BIND: usize = 2;
+const BIND: usize = 2;
 
 pub const ROW_DESCRIPTION: usize = 17;
 
-pub const STARTUP: usize = 31;
-
-// What is being read, in the order of a line. From BYTE to JOINED the digits are hexadecimal.
-const NAME: usize = 0;
-
-const SIZES: usize = 1;
-
-const BYTE: usize = 2;
-
-const ONE: usize = 3;
-
-const TWO: usize = 4;
-
-const JOINED: usize = 5;
-
-pub const NUMBERS: usize = 6;
-
-pub const FORMATS: usize = 7;
-
-pub const RESULTS: usize = 8;
-
-pub const COMMENT: usize = 9;
-
-const MALFORMED: usize = 10;
-
-// More than any number that fits.
-const TOO_LARGE: usize = 99999999999;
-
-#[derive(Clone, Copy)]
-pub struct Case {
-    // What is being read, and how many numbers it has so far.
-    pub section: usize,
-    count: usize,
-    // The number that is being read: whether it has begun, whether it is below zero, and how far from it.
-    begun: bool,
-    negative: bool,
-    size: usize,
-    // The sizes, and how many of them there are.
-    pub size_count: usize,
-    pub kind: usize,
-    pub room: usize,
-    pub start: usize,
-    pub len: usize,
-    pub next_start: usize,
-    pub next_len: usize,
-    // What the sections hold. The bytes of one, two and joined begin at 0, 64 and 128.
-    pub byte: u8,
-    pub one_len: usize,
-    pub two_len: usize,
-    pub joined_len: usize,
-    pub bytes: [u8; 192],
-    pub number_count: usize,
-    pub words: [u32; 8],
-    pub numbers: [i32; 8],
-    pub format_count: usize,
-    pub formats: [i16; 8],
-    pub result_count: usize,
-    pub results: [i16; 8],
-}
-
-pub fn start() -> Case {
-    Case {
-        section: NAME,
-        count: 0,
-        begun: false,
-        negative: false,
-        size: 0,
-        size_count: 0,
-        kind: 0,
-        room: 0,
-        start: 0,
-        len: 0,
-        next_start: 0,
-        next_len: 0,
-        byte: 0,
-        one_len: 0,
-        two_len: 0,
-        joined_len: 0,
-        bytes: [0; 192],
-        number_count: 0,
-        words: [0; 8],
-        numbers: [0; 8],
-        format_count: 0,
-        formats: [0; 8],
-        result_count: 0,
-        results: [0; 8],
-    }
-}
+const STARTUP: usize = 31;
 
 // The kinds of the boundary's call with lists; and 0, which is none.
 pub fn has_list(kind: usize) -> bool {
-    (kind < 3) | ((17 < kind) & (kind < 20)) | ((21 < kind) & (kind < 27)) | (kind == STARTUP)
+    matches!(kind, 0..=2 | 18..=19 | 22..=26 | 31)
 }
 
-// ErrorResponse and NoticeResponse, whose codes are the section ONE.
-pub fn is_error(kind: usize) -> bool {
-    (kind == 22) | (kind == 23)
+// The parts of a line, in their order.
+#[derive(Clone, Copy, PartialEq, Eq, PartialOrd, Ord)]
+pub enum Section {
+    Sizes,
+    Byte,
+    One,
+    Two,
+    Joined,
+    Numbers,
+    Formats,
+    Results,
 }
 
-// Whether the line gives the lengths of a start-up's strings, and no joined bytes.
-pub fn has_lengths(case: Case) -> bool {
-    (case.kind == STARTUP) & (case.section == NUMBERS) & (case.joined_len == 0)
-}
-
-// Whether the line ends in the letter of one of a Bind's lists, with nothing behind it: that list alone is given.
-pub fn names_list(case: Case) -> bool {
-    let no_bytes = (case.one_len == 0) & (case.two_len == 0) & (case.joined_len == 0);
-    let no_numbers = (case.number_count == 0) & (case.format_count == 0) & (case.result_count == 0);
-    (case.kind == BIND) & (NUMBERS <= case.section) & no_bytes & no_numbers
-}
-
-// Whether the line gives a byte and how often, and nothing else but the section BYTE, a start-up's lengths, or the letter of a Bind's list.
-fn is_repeated(case: Case) -> bool {
-    let most = (case.len <= MANY) | (!has_list(case.kind) & (case.len <= ROOM));
-    let alone = (case.section <= BYTE) | has_lengths(case) | names_list(case);
-    (case.size_count == 4) & (case.start < 256) & most & alone
-}
-
-// Whether a line that was read is a case: it has as many sizes as its kind takes.
-pub fn is_whole(case: Case) -> bool {
-    let count = case.size_count;
-    let row = case.kind == ROW_DESCRIPTION;
-    let of_row = row & ((count == 4) | (count == 6));
-    let of_other = !row & ((count == 2) | is_repeated(case));
-    (case.section < COMMENT) & (of_row | of_other)
-}
-
-fn section_of(letter: u8) -> usize {
-    match letter {
-        b'b' => BYTE,
-        b'o' => ONE,
-        b't' => TWO,
-        b'j' => JOINED,
-        b'n' => NUMBERS,
-        b'f' => FORMATS,
-        b'r' => RESULTS,
-        _ => MALFORMED,
-    }
-}
-
-// A number with one more digit. One that is too large stays so.
-fn appended(section: usize, number: usize, digit: u8) -> usize {
-    let digit = digit as usize;
-    if TOO_LARGE <= number {
-        return number;
-    }
-    if (SIZES < section) & (section < NUMBERS) {
-        return number * 16 + digit;
-    }
-    if 9 < digit {
-        return TOO_LARGE;
-    }
-    number * 10 + digit
-}
-
-// A minus, or the letter of a later section. Neither stands in a number.
-fn with_letter(mut case: Case, letter: u8) -> Case {
-    let section = section_of(letter);
-    if !case.begun & (letter == b'-') {
-        case.begun = true;
-        case.negative = true;
-        return case;
-    }
-    if case.begun | (section <= case.section) {
-        case.section = MALFORMED;
-        return case;
-    }
-    case.section = section;
-    case.count = 0;
-    case
-}
-
-// Whether a section that has `count` numbers takes this one too. Of a type's numbers half are below zero, if it is signed: of 256, n fits
-// where n / 2 < 128, and -n where n - 1 < 128.
-fn fits(section: usize, count: usize, negative: bool, size: usize) -> bool {
-    let half = if negative {
-        std::num::wrapping_sub_usize(size, 1)
-    } else {
-        size / 2
-    };
-    match section {
-        SIZES => (count < 6) & (half < 2147483648),
-        BYTE => (count < 1) & (half < 128),
-        ONE | TWO | JOINED => (count < 64) & (half < 128),
-        NUMBERS => (count < 8) & (half < 2147483648),
-        _ => (count < 8) & (half < 32768),
-    }
-}
-
-// In two's complement.
-fn bits(negative: bool, size: usize) -> usize {
-    if negative {
-        return std::num::wrapping_sub_usize(0, size);
-    }
-    size
-}
-
-fn with_size(mut case: Case, place: usize, size: usize) -> Case {
-    case.size_count = case.count;
-    match place {
-        0 => case.kind = size,
-        1 => case.room = size,
-        2 => case.start = size,
-        3 => case.len = size,
-        4 => case.next_start = size,
-        _ => case.next_len = size,
-    }
-    case
-}
-
-fn with_byte(mut case: Case, section: usize, place: usize, byte: u8) -> Case {
-    case.bytes[section % 3 * 64 + place % 64] = byte;
-    match section {
-        ONE => case.one_len = case.count,
-        TWO => case.two_len = case.count,
-        _ => case.joined_len = case.count,
-    }
-    case
-}
-
-// A number that fits, at its place: the remainders change neither, and spare a proof that both fit.
-fn put(mut case: Case, section: usize, place: usize, number: usize) -> Case {
-    let at = place % 8;
-    let word = (number % 4294967296) as u32;
-    let short = codec::signed16((number % 65536) as u16);
-    let byte = (number % 256) as u8;
-    match section {
-        SIZES => return with_size(case, place, number),
-        BYTE => case.byte = byte,
-        NUMBERS => {
-            case.words[at] = word;
-            case.numbers[at] = codec::signed32(word);
-            case.number_count = case.count;
+impl Section {
+    fn of(letter: u8) -> Option<Section> {
+        match letter {
+            b'b' => Some(Section::Byte),
+            b'o' => Some(Section::One),
+            b't' => Some(Section::Two),
+            b'j' => Some(Section::Joined),
+            b'n' => Some(Section::Numbers),
+            b'f' => Some(Section::Formats),
+            b'r' => Some(Section::Results),
+            _ => None,
         }
-        FORMATS => {
-            case.formats[at] = short;
-            case.format_count = case.count;
+    }
+
+    // What its digits count.
+    fn radix(self) -> u8 {
+        match self {
+            Section::Byte | Section::One | Section::Two | Section::Joined => 16,
+            _ => 10,
         }
-        RESULTS => {
-            case.results[at] = short;
-            case.result_count = case.count;
+    }
+
+    // How many bits its numbers have, with a sign or without.
+    fn bits(self) -> u32 {
+        match self {
+            Section::Sizes | Section::Numbers => 32,
+            Section::Formats | Section::Results => 16,
+            _ => 8,
         }
-        _ => return with_byte(case, section, place, byte),
     }
-    case
+
+    // A number in digits, in two's complement of 64 bits. None where it is no number, or does not fit: 0 with a minus is none.
+    fn number(self, word: &[u8]) -> Option<u64> {
+        let half = 1u64 << (self.bits() - 1);
+        let Some(digits) = word.strip_prefix(b"-") else {
+            return self.magnitude(word).filter(|size| size / 2 < half);
+        };
+        let size = self.magnitude(digits)?;
+        if size == 0 || half < size {
+            return None;
+        }
+        Some(size.wrapping_neg())
+    }
+
+    fn magnitude(self, digits: &[u8]) -> Option<u64> {
+        let radix = self.radix();
+        digits.iter().try_fold(0, |size: u64, letter| {
+            let digit = digit(*letter).filter(|digit| *digit < radix)?;
+            size.checked_mul(radix as u64)?.checked_add(digit as u64)
+        })
+    }
 }
 
-// The end of a number, if one has begun.
-fn with_space(mut case: Case) -> Case {
-    let section = case.section;
-    let place = case.count;
-    let negative = case.negative;
-    let size = case.size;
-    if !case.begun {
-        return case;
-    }
-    case.begun = false;
-    case.negative = false;
-    case.size = 0;
-    if !fits(section, place, negative, size) {
-        case.section = MALFORMED;
-        return case;
-    }
-    case.count = std::num::wrapping_add_usize(place, 1);
-    put(case, section, place, bits(negative, size))
+#[derive(Clone, Copy)]
+pub struct Case {
+    // The last section of the line.
+    section: Section,
+    sizes: Items<usize, 6>,
+    byte: Items<u8, 1>,
+    pub one: Items<u8, 64>,
+    pub two: Items<u8, 64>,
+    pub joined: Items<u8, 64>,
+    pub words: Items<u32, 8>,
+    pub numbers: Items<i32, 8>,
+    pub formats: Items<i16, 8>,
+    pub results: Items<i16, 8>,
 }
 
-fn with_name(mut case: Case, letter: u8) -> Case {
-    match letter {
-        b'#' => case.section = COMMENT,
-        b' ' => case.section = SIZES,
-        _ => {}
+impl Case {
+    fn new() -> Case {
+        Case {
+            section: Section::Sizes,
+            sizes: Items::new(0),
+            byte: Items::new(0),
+            one: Items::new(0),
+            two: Items::new(0),
+            joined: Items::new(0),
+            words: Items::new(0),
+            numbers: Items::new(0),
+            formats: Items::new(0),
+            results: Items::new(0),
+        }
     }
-    case
-}
 
-pub fn step(mut case: Case, letter: u8) -> Case {
-    let digit = test_cases::digit(letter);
-    if case.section == NAME {
-        return with_name(case, letter);
+    // None where the line is malformed.
+    pub fn read(line: &[u8]) -> Option<Case> {
+        let mut case = Case::new();
+        // The first word is the kind's name, for the eye.
+        for word in line.split(|letter| *letter == b' ').skip(1) {
+            case.read_word(word)?;
+        }
+        case.is_whole().then_some(case)
     }
-    if RESULTS < case.section {
-        return case;
+
+    // The letters of later sections, and a number.
+    fn read_word(&mut self, word: &[u8]) -> Option<()> {
+        let count = word
+            .iter()
+            .position(|letter| *letter == b'-' || digit(*letter).is_some())
+            .unwrap_or(word.len());
+        let (letters, number) = word.split_at(count);
+        for letter in letters {
+            self.enter(Section::of(*letter)?)?;
+        }
+        if number.is_empty() {
+            return Some(());
+        }
+        self.push(self.section.number(number)?)
     }
-    if letter == b' ' {
-        return with_space(case);
+
+    fn enter(&mut self, section: Section) -> Option<()> {
+        if section <= self.section {
+            return None;
+        }
+        self.section = section;
+        Some(())
     }
-    if digit == test_cases::NO_DIGIT {
-        return with_letter(case, letter);
+
+    fn push(&mut self, number: u64) -> Option<()> {
+        let [.., a, b, c, d] = number.to_be_bytes();
+        let word = u32::from_be_bytes([a, b, c, d]);
+        let short = i16::from_be_bytes([c, d]);
+        match self.section {
+            Section::Sizes => self.sizes.push(number as usize),
+            Section::Byte => self.byte.push(d),
+            Section::One => self.one.push(d),
+            Section::Two => self.two.push(d),
+            Section::Joined => self.joined.push(d),
+            Section::Numbers => {
+                self.words.push(word)?;
+                self.numbers.push(word.cast_signed())
+            }
+            Section::Formats => self.formats.push(short),
+            Section::Results => self.results.push(short),
+        }
     }
-    case.size = appended(case.section, case.size, digit);
-    case.begun = true;
-    case
+
+    fn size(&self, place: usize) -> usize {
+        self.sizes.get(place).unwrap_or(0)
+    }
+
+    pub fn kind(&self) -> usize {
+        self.size(0)
+    }
+
+    // How long the output is.
+    pub fn room(&self) -> usize {
+        self.size(1)
+    }
+
+    // Where a column's name begins in the run, and its length; or a byte, and how often it is given.
+    pub fn start(&self) -> usize {
+        self.size(2)
+    }
+
+    pub fn len(&self) -> usize {
+        self.size(3)
+    }
+
+    // The same of a second column.
+    pub fn next_start(&self) -> usize {
+        self.size(4)
+    }
+
+    pub fn next_len(&self) -> usize {
+        self.size(5)
+    }
+
+    // The byte, or the format's bits: 0, where none is given.
+    pub fn byte(&self) -> u8 {
+        self.byte.get(0).unwrap_or(0)
+    }
+
+    pub fn number(&self, place: usize) -> i32 {
+        self.numbers.get(place).unwrap_or(0)
+    }
+
+    pub fn is_row_description(&self) -> bool {
+        self.kind() == ROW_DESCRIPTION
+    }
+
+    // With another kind four sizes give a byte and how often.
+    pub fn has_two_pairs(&self) -> bool {
+        self.sizes.len() == 6
+    }
+
+    pub fn is_repeated(&self) -> bool {
+        !self.is_row_description() && self.sizes.len() == 4
+    }
+
+    // Whether the line gives the lengths of a start-up's strings, and no joined bytes.
+    pub fn has_lengths(&self) -> bool {
+        self.kind() == STARTUP && self.section == Section::Numbers && self.joined.is_empty()
+    }
+
+    // The list of a Bind whose letter ends the line, with nothing behind it: that list alone is given.
+    pub fn named_list(&self) -> Option<Section> {
+        let no_bytes = self.one.is_empty() && self.two.is_empty() && self.joined.is_empty();
+        let no_numbers =
+            self.words.is_empty() && self.formats.is_empty() && self.results.is_empty();
+        let named = self.kind() == BIND && Section::Numbers <= self.section;
+        (named && no_bytes && no_numbers).then_some(self.section)
+    }
+
+    // Whether a byte and how often is all that is given, but for the section Byte, a start-up's lengths, or the letter of a Bind's list.
+    fn is_repeated_alone(&self) -> bool {
+        let most = if has_list(self.kind()) { MANY } else { ROOM };
+        let alone =
+            self.section <= Section::Byte || self.has_lengths() || self.named_list().is_some();
+        self.is_repeated() && self.start() < 256 && self.len() <= most && alone
+    }
+
+    // Whether it has as many sizes as its kind takes.
+    fn is_whole(&self) -> bool {
+        if self.is_row_description() {
+            return matches!(self.sizes.len(), 4 | 6);
+        }
+        self.sizes.len() == 2 || self.is_repeated_alone()
+    }
 }

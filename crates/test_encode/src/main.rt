@@ -3,42 +3,53 @@
 #![tactic(auto)]
 
 mod boundary;
+mod call;
 mod calls;
 mod case;
 mod direct;
 mod fields;
+mod items;
 mod long;
 mod text;
 
 use case::Case;
 use std::io;
-use test_cases::{Output, write_letter};
+use test_cases::Output;
 
 // Stands in every byte of an output before a call: what an encoder leaves is seen.
 pub const SPARE: u8 = 238;
 
-// A line's end comes after the answer.
-fn with_letter(to: &mut Output, case: Case, letter: u8) -> Case {
-    if letter == b'\n' {
-        calls::answer(to, case::step(case, b' '));
-        write_letter(to, letter);
-        return case::start();
-    }
-    write_letter(to, letter);
-    case::step(case, letter)
+fn answer(to: &mut Output, line: &[u8]) -> Option<()> {
+    let case = Case::read(line)?;
+    calls::answer_case(to, &case)
 }
 
-fn answer_lines(to: &mut Output, letters: &[u8]) {
-    let mut case = case::start();
-    for i in 0..letters.len() {
-        case = with_letter(to, case, letters[i]);
+// A name with a # in it makes a line a comment.
+fn is_comment(line: &[u8]) -> bool {
+    line.split(|letter| *letter == b' ')
+        .take(1)
+        .any(|name| name.contains(&b'#'))
+}
+
+// Every line is written back; what is no comment, with its answer. A line's end comes after it, and where there is none there is no answer.
+fn answer_line(to: &mut Output, line: &[u8]) {
+    let Some(line) = line.strip_suffix(b"\n") else {
+        to.write_all(line);
+        return;
+    };
+    to.write_all(line);
+    if !is_comment(line) && answer(to, line).is_none() {
+        write!(to, " = malformed case");
     }
+    writeln!(to);
 }
 
 fn main(rt: HostRuntime) -> io::Result<()> {
-    let mut input = [0u8; 65536];
-    let count = test_cases::read_input(rt, &mut input)?;
+    let mut room = [0u8; 65536];
+    let input = test_cases::read_input(rt, &mut room)?;
     let mut to = Output::new(rt)?;
-    answer_lines(&mut to, &input[..count]);
+    for line in input.split_inclusive(|letter| *letter == b'\n') {
+        answer_line(&mut to, line);
+    }
     to.finish()
 }

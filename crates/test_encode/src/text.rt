@@ -1,38 +1,41 @@
 // What an encoder answers, in text, with every byte of the output: of a long one the number and two sums.
-use protocol::Encoded;
-use test_cases::{Output, write, write_encoded, write_hex, write_letter, write_number};
+use protocol::refusal::Refused;
+use std::fmt;
+use test_cases::Output;
+use test_cases::shown::{Hex, Shown};
 
 // The longest output that is written byte by byte.
 const SHORT: usize = 64;
 
-fn wide(byte: u8) -> u64 {
-    byte as u64
+// The sum of the bytes, and the sum of the sums up to each of them, which tells their places too. Both wrap.
+#[derive(Clone, Copy)]
+struct Sums {
+    sum: u64,
+    sums: u64,
 }
 
-// The sum of the bytes, and the sum of the sums up to each of them, which tells their places too. Both wrap.
-fn write_sums(to: &mut Output, bytes: &[u8]) {
-    let mut sum: u64 = 0;
-    let mut sums: u64 = 0;
-    for i in 0..bytes.len() {
-        sum = std::num::wrapping_add_u64(sum, wide(bytes[i]));
-        sums = std::num::wrapping_add_u64(sums, sum);
+impl Sums {
+    fn of(bytes: &[u8]) -> Sums {
+        bytes.iter().fold(Sums { sum: 0, sums: 0 }, |before, byte| {
+            let sum = before.sum.wrapping_add(*byte as u64);
+            let sums = before.sums.wrapping_add(sum);
+            Sums { sum, sums }
+        })
     }
-    write(to, b" sum ");
-    write_number(to, sum as usize);
-    write(to, b" sums ");
-    write_number(to, sums as usize);
+}
+
+impl fmt::Display for Sums {
+    fn fmt<W: fmt::Write>(&self, f: &mut fmt::Formatter<W>) -> fmt::Result {
+        write!(f, " sum {} sums {}", self.sum, self.sums)
+    }
 }
 
 // What stands behind a case: the answer, the room, and the output as it is after the call.
-pub fn write_answer(to: &mut Output, encoded: Encoded, out: &[u8]) {
-    write(to, b" = ");
-    write_encoded(to, encoded);
-    write(to, b" of ");
-    write_number(to, out.len());
-    write_letter(to, b':');
+pub fn write_answer(to: &mut Output, encoded: Result<usize, Refused>, out: &[u8]) {
+    write!(to, " = {} of {}:", Shown(encoded), out.len());
     if SHORT < out.len() {
-        write_sums(to, out);
+        write!(to, "{}", Sums::of(out));
     } else {
-        write_hex(to, out);
+        write!(to, "{}", Hex(out));
     }
 }

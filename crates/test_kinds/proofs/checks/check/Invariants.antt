@@ -3,4 +3,4 @@ use Rattle.std.proofs.Common.{◌≤◌}
 use Rattle.test_kinds.proofs.checks.check.Given as goal
 
 abbrev pub invariant-loop-number : goal.invariant-loop-number
-invariant-loop-number l = (l.tried ≤ l.number) × ((l.in_table ≤ l.number) × (l.wrong ≤ l.number))
+invariant-loop-number g l = (l.tried ≤ l.number) × ((l.in_table ≤ l.number) × (l.wrong ≤ l.number))
