@@ -1,6 +1,7 @@
-// A case, read letter by letter: "MODE HH HH .. = N N .." and, where the library is not to refuse, "| N N N". HH is a byte in hexadecimal digits. The
-// first N are the numbers that tusweram_decode is to give, without the zeros at their end; those after the bar are the Rust's answer: its status, and
-// the bytes consumed and the kind where it took a message. Whatever has another form is malformed.
+// A case in text: "MODE HH HH .. = N N .." and, where the library is not to refuse, "| N N N". HH is a byte in hexadecimal digits. The first N are the
+// numbers that tusweram_decode is to give, without the zeros at their end; those after the bar are the Rust's answer: its status, and the bytes consumed
+// and the kind where it took a message. Whatever has another form is malformed.
+use test_cases::case::{digit, first};
 
 // Room for a frame.
 pub const ROOM: usize = 128;
@@ -9,166 +10,112 @@ pub const ROOM: usize = 128;
 pub const ROW: usize = 16;
 
 // An answer and the Rust's, which begins at ROW.
-pub const BOTH: usize = 19;
+const BOTH: usize = 19;
 
-const IN_MODE: u8 = 0;
-
-const IN_BYTES: u8 = 1;
-
-const IN_NUMBERS: u8 = 2;
-
-const MALFORMED: u8 = 3;
-
-#[derive(Clone, Copy)]
-pub struct Case {
-    // What is being read.
-    pub part: u8,
+pub struct Case<'a> {
     pub mode: u8,
-    // How many bytes the frame has so far, and the first digit of the next one.
-    pub count: usize,
-    pub high: u8,
-    // How many numbers there are so far, and the next one with how many digits it has.
-    pub index: usize,
-    pub number: usize,
-    pub digits: u8,
+    pub frame: &'a [u8],
+    pub answer: [usize; ROW],
+    pub rust: Option<[usize; 3]>,
 }
 
-pub fn start() -> Case {
-    Case {
-        part: IN_MODE,
-        mode: 0,
-        count: 0,
-        high: test_cases::NO_DIGIT,
-        index: 0,
-        number: 0,
-        digits: 0,
-    }
+fn decimal(letter: u8) -> Option<u8> {
+    digit(letter).filter(|digit| *digit <= 9)
 }
 
-// A line that has all its parts.
-pub fn is_whole(case: Case) -> bool {
-    case.part == IN_NUMBERS
+// The mode is one digit.
+fn read_mode(text: &[u8]) -> Option<u8> {
+    text.iter().try_fold(0, |_, letter| decimal(*letter))
 }
 
-// Whether the Rust's answer stands in it.
-pub fn has_rust(case: Case) -> bool {
-    ROW < case.index
-}
-
-fn to_part(case: Case, part: u8) -> Case {
-    let mut case = case;
-    case.part = part;
-    case
-}
-
-fn in_mode(case: Case, letter: u8) -> Case {
-    let mut case = case;
-    if letter == b' ' {
-        return to_part(case, IN_BYTES);
-    }
-    let value = test_cases::digit(letter);
-    if 9 < value {
-        return to_part(case, MALFORMED);
-    }
-    case.mode = value;
-    case
-}
-
-// A byte's second digit, where there is room for the byte.
-fn with_byte(case: Case, low: u8, frame: &mut [u8; ROOM]) -> Case {
-    let mut case = case;
-    let high = case.high;
-    let count = case.count;
-    if ROOM <= count {
-        return to_part(case, MALFORMED);
-    }
-    if 15 < high {
-        return to_part(case, MALFORMED);
-    }
-    if 15 < low {
-        return to_part(case, MALFORMED);
-    }
-    frame[count] = high * 16 + low;
-    case.count = count + 1;
-    case.high = test_cases::NO_DIGIT;
-    case
-}
-
-fn in_bytes(case: Case, letter: u8, frame: &mut [u8; ROOM]) -> Case {
-    let mut case = case;
-    match letter {
-        b' ' => case,
-        b'=' => to_part(case, IN_NUMBERS),
-        _ => {
-            let value = test_cases::digit(letter);
-            if case.high != test_cases::NO_DIGIT {
-                return with_byte(case, value, frame);
+// The bytes, put at the start of `room`.
+fn read_frame<'a>(text: &[u8], room: &'a mut [u8; ROOM]) -> Option<&'a [u8]> {
+    let mut count: usize = 0;
+    let mut high: Option<u8> = None;
+    for letter in text.iter().filter(|letter| **letter != b' ') {
+        let value = digit(*letter)?;
+        match high.take() {
+            None => high = Some(value),
+            Some(high) => {
+                *room.get_mut(count)? = (high << 4) | value;
+                count += 1;
             }
-            if value == test_cases::NO_DIGIT {
-                return to_part(case, MALFORMED);
-            }
-            case.high = value;
-            case
         }
     }
+    Some(first(room, count))
 }
 
-// The number that a space or the line's end ends, if there is one.
-pub fn with_number(case: Case, expected: &mut [usize; BOTH]) -> Case {
-    let mut case = case;
-    let index = case.index;
-    if case.digits == 0 {
-        return case;
-    }
-    if BOTH <= index {
-        return to_part(case, MALFORMED);
-    }
-    expected[index] = case.number;
-    case.index = index + 1;
-    case.number = 0;
-    case.digits = 0;
-    case
+// The numbers that are read so far, and the digits of the next one.
+#[derive(Clone, Copy)]
+struct Numbers {
+    all: [usize; BOTH],
+    count: usize,
+    next: Option<usize>,
 }
 
-// Twelve digits are enough: a number is at most 32 bits, and the sum does not wrap.
-fn with_digit(case: Case, value: u8) -> Case {
-    let mut case = case;
-    let number = case.number;
-    if 99999999999 < number {
-        return to_part(case, MALFORMED);
+impl Numbers {
+    fn read(text: &[u8]) -> Option<Numbers> {
+        let mut numbers = Numbers {
+            all: [0; BOTH],
+            count: 0,
+            next: None,
+        };
+        for letter in text {
+            numbers.step(*letter)?;
+        }
+        numbers.end()?;
+        Some(numbers)
     }
-    if 9 < value {
-        return to_part(case, MALFORMED);
+
+    fn step(&mut self, letter: u8) -> Option<()> {
+        match letter {
+            b' ' => self.end(),
+            b'|' => self.bar(),
+            _ => self.digit(decimal(letter)?),
+        }
     }
-    case.number = number * 10 + (value as usize);
-    case.digits = 1;
-    case
+
+    // Twelve digits are enough: a number is at most 32 bits.
+    fn digit(&mut self, digit: u8) -> Option<()> {
+        let before = self.next.unwrap_or(0);
+        if 99999999999 < before {
+            return None;
+        }
+        self.next = Some(before * 10 + digit as usize);
+        Some(())
+    }
+
+    // The end of a number, if there is one.
+    fn end(&mut self) -> Option<()> {
+        if let Some(number) = self.next.take() {
+            *self.all.get_mut(self.count)? = number;
+            self.count += 1;
+        }
+        Some(())
+    }
+
+    // What follows is the Rust's.
+    fn bar(&mut self) -> Option<()> {
+        if ROW < self.count {
+            return None;
+        }
+        self.count = ROW;
+        Some(())
+    }
 }
 
-// The bar: what follows is the Rust's.
-fn at_bar(case: Case) -> Case {
-    let mut case = case;
-    if ROW < case.index {
-        return to_part(case, MALFORMED);
-    }
-    case.index = ROW;
-    case
-}
-
-fn in_numbers(case: Case, letter: u8, expected: &mut [usize; BOTH]) -> Case {
-    match letter {
-        b' ' => with_number(case, expected),
-        b'|' => at_bar(case),
-        _ => with_digit(case, test_cases::digit(letter)),
-    }
-}
-
-pub fn step(case: Case, letter: u8, frame: &mut [u8; ROOM], expected: &mut [usize; BOTH]) -> Case {
-    let part = case.part;
-    match part {
-        IN_MODE => in_mode(case, letter),
-        IN_BYTES => in_bytes(case, letter, frame),
-        IN_NUMBERS => in_numbers(case, letter, expected),
-        _ => case,
-    }
+// None where the line is malformed.
+pub fn read_case<'a>(line: &[u8], room: &'a mut [u8; ROOM]) -> Option<Case<'a>> {
+    let mut parts = line.splitn(2, |letter| *letter == b' ');
+    let mode = read_mode(parts.next()?)?;
+    let mut parts = parts.next()?.splitn(2, |letter| *letter == b'=');
+    let frame = read_frame(parts.next()?, room)?;
+    let numbers = Numbers::read(parts.next()?)?;
+    let [answer @ .., a, b, c] = numbers.all;
+    Some(Case {
+        mode,
+        frame,
+        answer,
+        rust: (ROW < numbers.count).then_some([a, b, c]),
+    })
 }

@@ -4,12 +4,10 @@
 
 mod case;
 
-use case::{BOTH, Case, ROOM, ROW};
+use case::{Case, ROOM, ROW, read_case};
 use std::io;
-use test_cases::{Output, write, write_number};
-
-// How many pieces of 65,536 letters are read: more than the list has.
-const PIECES: usize = 32;
+use test_cases::Output;
+use test_cases::case::Lines;
 
 // More letters than the list has.
 const MOST: usize = 2097152;
@@ -23,139 +21,55 @@ const KIND: usize = 4;
 
 const REFUSED: usize = 2;
 
-fn are_equal(got: &[usize; ROW], expected: &[usize; BOTH]) -> bool {
-    for i in 0..ROW {
-        if got[i] != expected[i] {
-            return false;
-        }
-    }
-    true
-}
-
-// Whether the Rust waits where the library does, and takes the same kind and bytes where the library takes a frame. The list has its answer exactly
-// where the library does not refuse.
-fn agrees_with_rust(case: Case, got: &[usize; ROW], expected: &[usize; BOTH]) -> bool {
-    if got[STATUS] == REFUSED {
-        return !case::has_rust(case);
-    }
-    case::has_rust(case)
-        && got[STATUS] == expected[ROW]
-        && got[CONSUMED] == expected[ROW + 1]
-        && got[KIND] == expected[ROW + 2]
-}
-
-// Whether the library gives the case's numbers, and what the Rust gave.
-fn holds(case: Case, frame: &[u8; ROOM], expected: &[usize; BOTH]) -> bool {
-    let mut got = [0usize; ROW];
-    host::decoding::tusweram_decode(case.mode, decode::part(frame, 0, case.count), &mut got);
-    case::is_whole(case) && are_equal(&got, expected) && agrees_with_rust(case, &got, expected)
-}
-
-fn report(to: &mut Output, line: usize) {
-    write(to, b"line ");
-    write_number(to, line);
-    write(to, b" is wrong\n");
-}
-
-// One more. There are fewer lines than letters.
-fn next(n: usize) -> usize {
-    if n < MOST { n + 1 } else { n }
-}
-
-// How far the list is read: the line that is being read, how many are, and how many of them do not hold.
-#[derive(Clone, Copy)]
-struct Tally {
-    case: Case,
-    lines: usize,
-    wrong: usize,
-}
-
-// A whole line.
-fn with_line(
-    to: &mut Output,
-    tally: Tally,
-    frame: &[u8; ROOM],
-    expected: &mut [usize; BOTH],
-) -> Tally {
-    let lines = next(tally.lines);
-    let read = case::with_number(tally.case, expected);
-    let case = case::start();
-    if holds(read, frame, expected) {
-        let wrong = tally.wrong;
-        return Tally { case, lines, wrong };
-    }
-    report(to, lines);
-    let wrong = next(tally.wrong);
-    Tally { case, lines, wrong }
-}
-
-fn with_letter(
-    to: &mut Output,
-    tally: Tally,
-    letter: u8,
-    frame: &mut [u8; ROOM],
-    expected: &mut [usize; BOTH],
-) -> Tally {
-    if letter == b'\n' {
-        let tally = with_line(to, tally, frame, expected);
-        *expected = [0usize; BOTH];
-        return tally;
-    }
-    let case = case::step(tally.case, letter, frame, expected);
-    let lines = tally.lines;
-    let wrong = tally.wrong;
-    Tally { case, lines, wrong }
-}
-
-fn with_letters(
-    to: &mut Output,
-    tally: Tally,
-    letters: &[u8],
-    frame: &mut [u8; ROOM],
-    expected: &mut [usize; BOTH],
-) -> Tally {
-    let mut tally = tally;
-    for i in 0..letters.len() {
-        tally = with_letter(to, tally, letters[i], frame, expected);
-    }
-    tally
-}
-
-// The next piece of the list, which is empty behind its end.
-fn with_piece(
-    to: &mut Output,
-    rt: HostRuntime,
-    tally: Tally,
-    frame: &mut [u8; ROOM],
-    expected: &mut [usize; BOTH],
-) -> io::Result<Tally> {
-    let mut input = [0u8; 65536];
-    let count = test_cases::read_input(rt, &mut input)?;
-    Ok(with_letters(to, tally, &input[..count], frame, expected))
-}
-
-fn replay(to: &mut Output, rt: HostRuntime) -> io::Result<()> {
-    let mut frame = [0u8; ROOM];
-    let mut expected = [0usize; BOTH];
-    let case = case::start();
-    let mut tally = Tally {
-        case,
-        lines: 0,
-        wrong: 0,
+// Whether the library gives the case's numbers; and whether the Rust waits where the library does, and takes the same kind and bytes where the library
+// takes a frame. The list has its answer exactly where the library does not refuse.
+fn holds(line: &[u8]) -> bool {
+    let mut room = [0u8; ROOM];
+    let Some(Case {
+        mode,
+        frame,
+        answer,
+        rust,
+    }) = read_case(line, &mut room)
+    else {
+        return false;
     };
-    for _ in 0..PIECES {
-        tally = with_piece(to, rt, tally, &mut frame, &mut expected)?;
+    let mut got = [0usize; ROW];
+    host::decoding::tusweram_decode(mode, frame, &mut got);
+    let taken = match got[STATUS] {
+        REFUSED => None,
+        status => Some([status, got[CONSUMED], got[KIND]]),
+    };
+    got == answer && rust == taken
+}
+
+// The same of a line, which is written where it is wrong.
+fn is_wrong(to: &mut Output, number: usize, line: &[u8]) -> bool {
+    let wrong = !holds(line);
+    if wrong {
+        writeln!(to, "line {number} is wrong");
     }
-    write_number(to, tally.lines);
-    write(to, b" cases, ");
-    write_number(to, tally.wrong);
-    write(to, b" wrong\n");
-    Ok(())
+    wrong
+}
+
+// The lines that have an end: none is cut where the room ends.
+fn whole_lines(input: &[u8]) -> Lines<'_> {
+    match input.iter().rposition(|letter| *letter == b'\n') {
+        Some(end) => Lines::of(&input[..=end]),
+        None => Lines::of(&[]),
+    }
 }
 
 fn main(rt: HostRuntime) -> io::Result<()> {
+    let mut room = [0u8; MOST];
+    let input = test_cases::read_input(rt, &mut room)?;
     let mut to = Output::new(rt)?;
-    let result = replay(&mut to, rt);
-    to.finish()?;
-    result
+    let lines = whole_lines(input).count();
+    // There are fewer lines than letters.
+    let wrong = whole_lines(input)
+        .zip(1..=MOST)
+        .filter(|(line, number)| is_wrong(&mut to, *number, line))
+        .count();
+    writeln!(to, "{lines} cases, {wrong} wrong");
+    to.finish()
 }
