@@ -134,7 +134,8 @@ pub fn tls_answer(rules: Rules, buf: &[u8]) -> Result<(Message, usize), Unread>
     }
 }
 
-// Mode 4: the answer to a request for GSS encryption, one byte, which is all of it.
+// Mode 4: the answer to a request for GSS encryption, one byte, which is all of it. It is like mode 3's, and by itself: the two bytes are constants
+// of the answer's type, and a `match` takes them from there.
 pub fn gss_answer(rules: Rules, buf: &[u8]) -> Result<(Message, usize), Unread>
     ensures { decoded result ≡ decode_in rules K.gss_answer buf.now }
 {
