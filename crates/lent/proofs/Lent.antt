@@ -1,24 +1,23 @@
 -- Refused or told need-more, what was lent is as it was: each contract says so.
-use Prim.Native.Nat.{ℕ, ◌<◌}
+use Prim.Native.Nat.{ℕ}
 use mathlib.Core.List.{List}
 use mathlib.Core.Logic.{inl, inr}
 use mathlib.Core.Option.{Option, some, none}
-use mathlib.Core.Path.{◌≡◌, refl, ap, sym, ◌∙◌}
-use lib.IntN.{ℤ}
-use lib.ListN.{length, drop}
+use mathlib.Core.Path.{◌≡◌, refl, ◌∙◌}
+use lib.ListN.{length}
 use Rattle.protocol.specs.Encoded as N
 use Rattle.protocol.specs.Encoded.{Encoded}
 use Rattle.protocol.specs.Answers.{Unsuccessful, of_encoded}
-use Rattle.protocol.specs.Encode.{encoded_by, written_by, Encodes}
+use Rattle.protocol.specs.Encode.{written_by}
 use Rattle.protocol.specs.Kinds.{Kind, Mode}
 use Rattle.protocol.specs.Told.{encoded}
 use Rattle.protocol.specs.WellFormed.{Contents}
-use Rattle.host.specs.Asked.{Asked, encoded_as, written_as, Answers, answer_by}
+use Rattle.host.specs.Asked.{Asked, encoded_as, written_as}
 use Rattle.host.proofs.Numbers.{read_back}
 use Rattle.host_layout.specs.LaidOut.{of_numbers}
-use Rattle.host_parts.specs.Built.{Renews, number_of, of_number, row_numbers}
-use Rattle.host_parts.specs.Reads.{LaysRow, row_out, row_read}
-use Rattle.reader.specs.Row.{of_row, row_told, ReadsRow, places_in, starts_of, lengths_of, over}
+use Rattle.host_parts.specs.Built.{number_of, of_number, row_numbers}
+use Rattle.host_parts.specs.Reads.{row_out, row_read}
+use Rattle.reader.specs.Row.{of_row, row_told, places_in, starts_of, lengths_of, over}
 use Rattle.reader.specs.RowAnswer as R
 use Rattle.reader.specs.RowAnswer.{Row}
 use Rattle.row_builder.specs.Building.{built, left_by}

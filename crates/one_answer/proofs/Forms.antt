@@ -50,10 +50,8 @@ use Rattle.listing.specs.declared.End.TheVariants as E
 use Rattle.listing.specs.declared.End.{End}
 use Rattle.writers.proofs.Puts.{has_room}
 use Rattle.reader.specs.Row.{row_told, places_in, starts_of, lengths_of, over}
-use Rattle.reader.specs.RowAnswer as Row
 use Rattle.reader.specs.RowAnswer.{Row}
 use Rattle.row_builder.specs.Building.{built}
-use Rattle.row_builder.specs.Built as Built
 use Rattle.row_builder.specs.Built.{Built}
 use Rattle.row_builder.specs.declared.Row.{Row as Stored}
 use Rattle.one_answer.specs.Forms.{Tells, ByDefinition, WithBuffer, AnswersTell, StepsTell, HeadersTell, ItemsTell, ListingTells, BuildersTell, ToldWithBuffer, Frames, Encoders, HostEncoders, Writers, Pages, Readers, WholeRows, HostRows, HostBuilders}
