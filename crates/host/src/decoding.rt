@@ -67,6 +67,7 @@ fn query_answer(message: Message, n: usize) -> [usize; 16]
     }
 }
 
+// A TLS answer's number and a GSS answer's, for the C interface. They are two enums of the Rust: one function for both is no plainer.
 fn ssl_number(answer: SslResponse) -> usize
     ensures { result ≡ own_number (view (M.SslResponse answer)).kind }
 {

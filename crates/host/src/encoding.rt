@@ -18,6 +18,7 @@ fn answer_number(r: Result<usize, Refused>) -> usize
     }
 }
 
+// A TLS answer and a GSS answer, told by their numbers: the C interface. Each has its own rows and its own encoder: one function for both is no plainer.
 fn ssl(byte: u8, out: &mut [u8]) -> Result<usize, Refused>
     ensures { Chosen (asked_in ssl_rows byte) out.old (encoded result) out.new }
 {
