@@ -90,7 +90,9 @@ fn number_in(word: &[u8]) -> usize {
     word.iter()
         .filter(|letter| letter.is_ascii_digit())
         .fold(0, |number: usize, letter| {
-            number.saturating_mul(10).saturating_add((*letter - b'0') as usize)
+            number
+                .saturating_mul(10)
+                .saturating_add((*letter - b'0') as usize)
         })
 }
 

@@ -5,6 +5,8 @@
 pub mod case;
 pub mod shown;
 
+ghost use Rattle.std.specs.Prelude.{◌≡◌, length};
+
 use case::Lines;
 use std::fmt::Display;
 use std::io;
@@ -80,4 +82,11 @@ pub fn answer_lines<F: FnMut(&mut Output, &[u8]) -> Option<()>>(
         }
         writeln!(to);
     }
+}
+
+// One item over and over. Its length alone is said: the check would compute a long array's value.
+pub fn filled<T: Copy, const N: usize>(item: T) -> [T; N]
+    ensures { length result ≡ N }
+{
+    [item; N]
 }

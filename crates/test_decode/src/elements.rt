@@ -9,9 +9,22 @@ use test_cases::shown::Shown;
 const STAND_IN: &[u8] = b"blank";
 
 fn write_field(to: &mut Output, field: FieldDescription) {
-    write!(to, "Field name {} table_id {}", Shown(field.name), field.table_id);
-    write!(to, " column_id {} type_id {}", field.column_id, field.type_id);
-    write!(to, " type_size {} type_modifier {}", field.type_size, field.type_modifier);
+    write!(
+        to,
+        "Field name {} table_id {}",
+        Shown(field.name),
+        field.table_id
+    );
+    write!(
+        to,
+        " column_id {} type_id {}",
+        field.column_id, field.type_id
+    );
+    write!(
+        to,
+        " type_size {} type_modifier {}",
+        field.type_size, field.type_modifier
+    );
     write!(to, " format_code {}", field.format_code);
 }
 

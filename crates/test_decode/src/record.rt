@@ -14,24 +14,46 @@ fn write_parse(to: &mut Output, m: Parse) {
 fn write_bind(to: &mut Output, m: Bind) {
     write!(to, "Bind portal_name {}", Shown(m.portal_name));
     write!(to, " statement_name {}", Shown(m.statement_name));
-    write!(to, " parameter_format_codes {}", Shown(m.parameter_format_codes));
+    write!(
+        to,
+        " parameter_format_codes {}",
+        Shown(m.parameter_format_codes)
+    );
     write!(to, " parameters {}", Shown(m.parameters));
-    write!(to, " result_column_format_codes {}", Shown(m.result_column_format_codes));
+    write!(
+        to,
+        " result_column_format_codes {}",
+        Shown(m.result_column_format_codes)
+    );
 }
 
 // Close and Describe.
 fn write_target(to: &mut Output, kind: &str, target_type: u8, name: Span) {
-    write!(to, "{kind} target_type {} name {}", target_type as char, Shown(name));
+    write!(
+        to,
+        "{kind} target_type {} name {}",
+        target_type as char,
+        Shown(name)
+    );
 }
 
 // The three copy responses.
 fn write_copy(to: &mut Output, kind: &str, format: i8, column_formats: List) {
-    write!(to, "{kind} format {format} column_formats {}", Shown(column_formats));
+    write!(
+        to,
+        "{kind} format {format} column_formats {}",
+        Shown(column_formats)
+    );
 }
 
 fn write_notification(to: &mut Output, m: NotificationResponse) {
     write!(to, "NotificationResponse pid {}", m.pid);
-    write!(to, " channel {} payload {}", Shown(m.channel), Shown(m.payload));
+    write!(
+        to,
+        " channel {} payload {}",
+        Shown(m.channel),
+        Shown(m.payload)
+    );
 }
 
 fn write_keys(to: &mut Output, kind: &str, pid: i32, secret_key: i32) {
@@ -39,7 +61,12 @@ fn write_keys(to: &mut Output, kind: &str, pid: i32, secret_key: i32) {
 }
 
 fn write_status(to: &mut Output, name: Span, value: Span) {
-    write!(to, "ParameterStatus name {} value {}", Shown(name), Shown(value));
+    write!(
+        to,
+        "ParameterStatus name {} value {}",
+        Shown(name),
+        Shown(value)
+    );
 }
 
 fn write_execute(to: &mut Output, name: Span, max_rows: i32) {

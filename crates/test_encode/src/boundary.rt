@@ -11,9 +11,7 @@ pub fn encode(call: &Call<'_>, out: &mut [u8]) -> usize {
         return encoding::tusweram_encode_row_description(call.fields, one, out);
     }
     if !case::has_list(kind) {
-        return encoding::tusweram_encode(
-            kind, call.byte, call.first, call.second, one, two, out,
-        );
+        return encoding::tusweram_encode(kind, call.byte, call.first, call.second, one, two, out);
     }
     encoding::tusweram_encode_lists(
         kind,

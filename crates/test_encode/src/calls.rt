@@ -5,7 +5,7 @@ use crate::text::write_answer;
 use crate::{SPARE, boundary, direct, long};
 use protocol::Span;
 use protocol::data::FieldDescription;
-use test_cases::Output;
+use test_cases::{Output, filled};
 use test_cases::case::first;
 
 // The encoder's answer, and its output after the call. The boundary's, in an output of its own, are the same.
@@ -20,8 +20,8 @@ fn answer_in(to: &mut Output, call: &Call<'_>, out: &mut [u8], other: &mut [u8])
 
 // The same in outputs of `size` bytes. None where there is no such room.
 pub fn answer(to: &mut Output, call: &Call<'_>, size: usize) -> Option<()> {
-    let mut out = [SPARE; ROOM];
-    let mut other = [SPARE; ROOM];
+    let mut out: [u8; ROOM] = filled(SPARE);
+    let mut other: [u8; ROOM] = filled(SPARE);
     answer_in(to, call, out.get_mut(..size)?, other.get_mut(..size)?);
     Some(())
 }

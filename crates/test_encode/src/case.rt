@@ -231,8 +231,9 @@ impl Case {
     // The list of a Bind whose letter ends the line, with nothing behind it: that list alone is given.
     pub fn named_list(&self) -> Option<Section> {
         let no_bytes = self.one.is_empty() && self.two.is_empty() && self.joined.is_empty();
-        let no_numbers =
-            self.words.is_empty() && self.formats.is_empty() && self.results.is_empty();
+        let no_numbers = self.words.is_empty()
+            && self.formats.is_empty()
+            && self.results.is_empty();
         let named = self.kind() == BIND && Section::Numbers <= self.section;
         (named && no_bytes && no_numbers).then_some(self.section)
     }
@@ -240,8 +241,9 @@ impl Case {
     // Whether a byte and how often is all that is given, but for the section Byte, a start-up's lengths, or the letter of a Bind's list.
     fn is_repeated_alone(&self) -> bool {
         let most = if has_list(self.kind()) { MANY } else { ROOM };
-        let alone =
-            self.section <= Section::Byte || self.has_lengths() || self.named_list().is_some();
+        let alone = self.section <= Section::Byte
+            || self.has_lengths()
+            || self.named_list().is_some();
         self.is_repeated() && self.start() < 256 && self.len() <= most && alone
     }
 

@@ -44,10 +44,23 @@ fn by_copy(call: &Call<'_>, out: &mut [u8]) -> Result<usize, Refused> {
 }
 
 fn by_query(call: &Call<'_>, out: &mut [u8]) -> Result<usize, Refused> {
-    let Call { one, two, formats, .. } = *call;
+    let Call {
+        one,
+        two,
+        formats,
+        ..
+    } = *call;
     match call.kind {
         1 => extendedquery::parse(one, two, call.words, out),
-        2 => extendedquery::bind(one, two, formats, call.lengths, call.joined, call.results, out),
+        2 => extendedquery::bind(
+            one,
+            two,
+            formats,
+            call.lengths,
+            call.joined,
+            call.results,
+            out,
+        ),
         3 => extendedquery::close(call.byte, one, out),
         4 => extendedquery::describe(call.byte, one, out),
         5 => extendedquery::execute(one, call.first, out),

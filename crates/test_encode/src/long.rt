@@ -3,7 +3,7 @@ use crate::call::Call;
 use crate::calls;
 use crate::case::{Case, MANY, ROOM, Section, has_list};
 use decode::part;
-use test_cases::Output;
+use test_cases::{Output, filled};
 use test_cases::case::first;
 
 // ErrorResponse and NoticeResponse, whose codes are the section One.
@@ -23,10 +23,10 @@ struct Repeated {
 impl Repeated {
     fn of(byte: u8) -> Repeated {
         Repeated {
-            bytes: [byte; ROOM],
-            words: [byte as u32; MANY],
-            lengths: [byte as i32; MANY],
-            formats: [byte as i16; MANY],
+            bytes: filled(byte),
+            words: filled(byte as u32),
+            lengths: filled(byte as i32),
+            formats: filled(byte as i16),
         }
     }
 

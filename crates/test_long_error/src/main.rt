@@ -8,7 +8,7 @@ mod fields;
 use fields::{Fields, ROOM, SPARE};
 use protocol::{Element, Message};
 use std::io;
-use test_cases::Output;
+use test_cases::{Output, filled};
 use test_cases::shown::{Hex, Shown};
 
 // The error, written into an output, and how many of the last bytes are as they were before the call.
@@ -21,7 +21,7 @@ fn write_in(to: &mut Output, fields: &Fields, out: &mut [u8]) {
 
 // The same in an output of `size` bytes.
 fn write_of(to: &mut Output, fields: &Fields, size: usize) {
-    let mut out = [SPARE; ROOM];
+    let mut out: [u8; ROOM] = filled(SPARE);
     if let Some(out) = out.get_mut(..size) {
         write_in(to, fields, out);
     }
@@ -65,7 +65,7 @@ fn write_element(to: &mut Output, buf: &[u8], number: usize) {
 fn main(rt: HostRuntime) -> io::Result<()> {
     let mut to = Output::new(rt)?;
     let fields = Fields::new();
-    let mut frame = [SPARE; ROOM];
+    let mut frame: [u8; ROOM] = filled(SPARE);
     write_in(&mut to, &fields, &mut frame);
     writeln!(to, "first{}", Hex(decode::part(&frame, 0, 11)));
     writeln!(to, "last{}", Hex(decode::part(&frame, 120002, 8)));

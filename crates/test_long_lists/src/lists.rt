@@ -121,7 +121,11 @@ fn write_cut(to: &mut Output, which: Which, frame: &[u8; ROOM], size: usize) {
 
 fn write_frame(to: &mut Output, which: Which, frame: &[u8; ROOM], count: usize, size: usize) {
     let end = size.saturating_sub(which.bytes_behind());
-    writeln!(to, ", count{}", Hex(decode::part(frame, which.count_place(), 2)));
+    writeln!(
+        to,
+        ", count{}",
+        Hex(decode::part(frame, which.count_place(), 2))
+    );
     answers::write_decoded(to, which.mode(), frame);
     write_elements(to, which, frame, count);
     write_cut(to, which, frame, end);

@@ -106,14 +106,21 @@ fn read_frame(to: &mut Output, frame: &[u8; ROOM]) -> Option<()> {
     let (_, c) = reader::half_at(frame, c.at)?;
     let (count, c) = reader::half_at(frame, c.at)?;
     let Pass { right, end } = read_values(frame, c.at, count as usize);
-    writeln!(to, "one pass: {right} of {count} values as given, ended at {end}");
+    writeln!(
+        to,
+        "one pass: {right} of {count} values as given, ended at {end}"
+    );
     Some(())
 }
 
 pub fn answer(to: &mut Output) {
     let values = Values::new();
     let mut frame = [SPARE; ROOM];
-    writeln!(to, "Bind of 40000 values: {}", Shown(values.encode(&mut frame)));
+    writeln!(
+        to,
+        "Bind of 40000 values: {}",
+        Shown(values.encode(&mut frame))
+    );
     writeln!(to, "first{}", Hex(decode::part(&frame, 0, 30)));
     answers::write_decoded(to, 0, &frame);
     for number in [0, 1, 2, 3, 39996, 39999, 40000] {

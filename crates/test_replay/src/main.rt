@@ -25,12 +25,14 @@ const REFUSED: usize = 2;
 // takes a frame. The list has its answer exactly where the library does not refuse.
 fn holds(line: &[u8]) -> bool {
     let mut room = [0u8; ROOM];
-    let Some(Case {
-        mode,
-        frame,
-        answer,
-        rust,
-    }) = read_case(line, &mut room)
+    let Some(
+        Case {
+            mode,
+            frame,
+            answer,
+            rust,
+        },
+    ) = read_case(line, &mut room)
     else {
         return false;
     };

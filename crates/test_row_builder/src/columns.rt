@@ -4,7 +4,7 @@ use crate::calls::{Call, SPARE};
 use crate::long::{Letters, ROOM, answer_all};
 use protocol::Message;
 use row_builder::Row;
-use test_cases::Output;
+use test_cases::{Output, filled};
 use test_cases::shown::Shown;
 
 // A count of 32,768 has its top bit set; so many NULLs have a frame of 131,079 bytes, and the length 131,078 (00 02 00 06).
@@ -52,7 +52,7 @@ fn full_row(to: &mut Output, letters: &Letters, room: &mut [u8]) {
 
 // In as many bytes as are lent.
 fn full_row_in(to: &mut Output, letters: &Letters, lent: usize) {
-    let mut room = [SPARE; ROOM];
+    let mut room: [u8; ROOM] = filled(SPARE);
     if let Some(room) = room.get_mut(..lent) {
         full_row(to, letters, room);
     }
@@ -60,7 +60,7 @@ fn full_row_in(to: &mut Output, letters: &Letters, lent: usize) {
 
 // A frame of one column more than there may be, with its right numbers.
 fn too_many(to: &mut Output, letters: &Letters) {
-    let mut room = [255u8; TOO_MANY];
+    let mut room: [u8; TOO_MANY] = filled(255);
     let row = Row {
         columns: 32768,
         size: TOO_MANY,

@@ -3,7 +3,7 @@
 use crate::calls::{Call, SPARE};
 use crate::long::{Letters, ROOM, answer_all};
 use row_builder::Row;
-use test_cases::Output;
+use test_cases::{Output, filled};
 
 // The row before the first call.
 const NONE: Row = Row {
@@ -28,7 +28,7 @@ fn by_value(to: &mut Output, letters: &Letters, room: &mut [u8]) {
 
 // In as many bytes as are lent.
 fn by_value_in(to: &mut Output, letters: &Letters, lent: usize) {
-    let mut room = [SPARE; ROOM];
+    let mut room: [u8; ROOM] = filled(SPARE);
     if let Some(room) = room.get_mut(..lent) {
         by_value(to, letters, room);
     }
@@ -52,7 +52,7 @@ fn forged(to: &mut Output, letters: &Letters, room: &mut [u8]) {
 
 // NULL reaches the limit, and another is refused; an empty value reaches it too. With one byte more in the first column both are above it.
 fn by_null(to: &mut Output, letters: &Letters) {
-    let mut room = [SPARE; ROOM];
+    let mut room: [u8; ROOM] = filled(SPARE);
     let calls = [
         Call::Begin,
         letters.append(1048562),

@@ -3,7 +3,7 @@
 use crate::calls::{Call, SPARE};
 use protocol::kinds::LARGE_FRAME;
 use row_builder::Row;
-use test_cases::Output;
+use test_cases::{Output, filled};
 use test_cases::case::first;
 use test_cases::shown::Hex;
 
@@ -16,7 +16,7 @@ pub struct Letters([u8; ROOM]);
 
 impl Letters {
     pub fn new() -> Letters {
-        Letters([b'a'; ROOM])
+        Letters(filled(b'a'))
     }
 
     // A value of so many letters.
