@@ -55,18 +55,18 @@ impl Section {
         }
     }
 
-    // How many bits its numbers have, with a sign or without.
-    fn bits(self) -> u32 {
+    // How many of its type's numbers are below zero, where it is signed; as many are not.
+    fn half(self) -> u64 {
         match self {
-            Section::Sizes | Section::Numbers => 32,
-            Section::Formats | Section::Results => 16,
-            _ => 8,
+            Section::Sizes | Section::Numbers => 2147483648,
+            Section::Formats | Section::Results => 32768,
+            _ => 128,
         }
     }
 
     // A number in digits, in two's complement of 64 bits. None where it is no number, or does not fit: 0 with a minus is none.
     fn number(self, word: &[u8]) -> Option<u64> {
-        let half = 1u64 << (self.bits() - 1);
+        let half = self.half();
         let Some(digits) = word.strip_prefix(b"-") else {
             return self.magnitude(word).filter(|size| size / 2 < half);
         };

@@ -13,7 +13,7 @@ pub fn description_of<const N: usize>(
     run: &[u8],
     out: &mut [u8],
 ) -> Result<usize, Refused>
-    ensures { Encodes K.backend K.row_description (G.row_description fields run.now) out.old (encoded result) out.new }
+    ensures { Encodes K.backend K.row_description (G.row_description fields.entry run.now) out.old (encoded result) out.new }
 {
     row_description(&fields, run, out)
 }
