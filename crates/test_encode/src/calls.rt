@@ -5,8 +5,8 @@ use crate::text::write_answer;
 use crate::{SPARE, boundary, direct, long};
 use protocol::Span;
 use protocol::data::FieldDescription;
-use test_cases::{Output, filled};
 use test_cases::case::first;
+use test_cases::{Output, filled};
 
 // The encoder's answer, and its output after the call. The boundary's, in an output of its own, are the same.
 fn answer_in(to: &mut Output, call: &Call<'_>, out: &mut [u8], other: &mut [u8]) {

@@ -3,8 +3,8 @@ use crate::call::Call;
 use crate::calls;
 use crate::case::{Case, MANY, ROOM, Section, has_list};
 use decode::part;
-use test_cases::{Output, filled};
 use test_cases::case::first;
+use test_cases::{Output, filled};
 
 // ErrorResponse and NoticeResponse, whose codes are the section One.
 fn is_error(kind: usize) -> bool {

@@ -68,7 +68,11 @@ fn is_unknown(to: &mut Output, mode: u8, tag: u32) -> bool {
 // A frame of the smallest length: the header is all of it, where no body is asked for.
 fn smallest_frame(mode: u8, smallest: u32) -> Answer {
     let smallest = smallest as usize;
-    let (header, frame) = if has_codes(mode) { (8, smallest) } else { (5, smallest + 1) };
+    let (header, frame) = if has_codes(mode) {
+        (8, smallest)
+    } else {
+        (5, smallest + 1)
+    };
     if header < frame {
         Answer(Err(Unread::NeedMore))
     } else {

@@ -67,9 +67,7 @@ pub fn codes_around(to: &mut Output, mode: u8) {
 pub fn no_other_mode(to: &mut Output) {
     let unknown = Answer::refused(Refusal::ModeUnknown, 0);
     let wrong = (6..=255)
-        .filter(|mode| {
-            line_at(*mode, 0).is_some() | !answers::gets(to, *mode, 0, 4, unknown)
-        })
+        .filter(|mode| { line_at(*mode, 0).is_some() | !answers::gets(to, *mode, 0, 4, unknown) })
         .count();
     if wrong == 0 {
         writeln!(to, "modes 6 to 255: no table, refused");

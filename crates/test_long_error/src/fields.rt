@@ -1,4 +1,6 @@
 // The fields that are given, and a pass over those that are read.
+ghost use Rattle.std.specs.Prelude.{◌<◌};
+
 use codec::Cursor;
 use protocol::refusal::Refused;
 use protocol::{Span, rules_of};
@@ -50,7 +52,9 @@ impl Fields {
 }
 
 // Whether field i is read as it was given: its code, and its string of one byte, at its place.
-fn is_field(frame: &[u8], i: usize, code: u8, string: Span) -> bool {
+fn is_field(frame: &[u8], i: usize, code: u8, string: Span) -> bool
+    requires { i < 40000 }
+{
     let place = Span {
         start: 6 + i * 3,
         len: 1,

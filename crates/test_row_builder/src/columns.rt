@@ -4,8 +4,8 @@ use crate::calls::{Call, SPARE};
 use crate::long::{Letters, ROOM, answer_all};
 use protocol::Message;
 use row_builder::Row;
-use test_cases::{Output, filled};
 use test_cases::shown::Shown;
+use test_cases::{Output, filled};
 
 // A count of 32,768 has its top bit set; so many NULLs have a frame of 131,079 bytes, and the length 131,078 (00 02 00 06).
 const TOO_MANY: usize = 131079;
@@ -23,7 +23,11 @@ fn write_decoded(to: &mut Output, room: &[u8]) {
 
 fn put_nulls(to: &mut Output, room: &mut [u8]) {
     let lengths = [-1i32; 32766];
-    write!(to, "32766 columns of NULL, in a room of {} bytes: ", room.len());
+    write!(
+        to,
+        "32766 columns of NULL, in a room of {} bytes: ",
+        room.len()
+    );
     writeln!(to, "{}", Shown(encode::data::data_row(&lengths, b"", room)));
 }
 

@@ -22,7 +22,11 @@ fn by_value(to: &mut Output, letters: &Letters, room: &mut [u8]) {
         Call::Finish,
         Call::DropLast,
     ];
-    writeln!(to, "the limit by a value, in a room of {} bytes", room.len());
+    writeln!(
+        to,
+        "the limit by a value, in a room of {} bytes",
+        room.len()
+    );
     answer_all(to, &calls, NONE, room);
 }
 

@@ -3,9 +3,9 @@
 use crate::calls::{Call, SPARE};
 use protocol::kinds::LARGE_FRAME;
 use row_builder::Row;
-use test_cases::{Output, filled};
 use test_cases::case::first;
 use test_cases::shown::Hex;
+use test_cases::{Output, filled};
 
 // Room for the longest frame and 15 bytes more.
 pub const ROOM: usize = LARGE_FRAME + 15;
@@ -41,7 +41,12 @@ fn answer(to: &mut Output, call: Call<'_>, row: Row, room: &mut [u8]) -> Row {
     let next = call.answer(to, row, room);
     let end = next.size.wrapping_sub(4);
     let spare = room.iter().filter(|byte| **byte == SPARE).count();
-    write!(to, "; first{}; end{}", part(room, 0, 12, 7), part(room, end, 8, 4));
+    write!(
+        to,
+        "; first{}; end{}",
+        part(room, 0, 12, 7),
+        part(room, end, 8, 4)
+    );
     writeln!(to, "; spare {spare}");
     next
 }
