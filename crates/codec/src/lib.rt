@@ -216,7 +216,8 @@ impl Cursor {
         Ok(next)
     }
 
-    // Past `count` values, each checked.
+    // Past `count` values, each checked. It is called, and put into no caller, so that its loop has the registers that it needs: 11 instructions a value.
+    #[inline(never)]
     pub fn pass_values(self, rules: Rules, frame: &[u8], count: usize) -> Result<Cursor, Refused>
         ensures { passed_read result ≡ pass_items rules nullable count frame.now self.at }
     {

@@ -1,15 +1,15 @@
 -- Runs of stores, one after the other; and what a loop over a list does at each turn.
-use Prim.Native.Nat.{ℕ, suc, ◌+◌, ◌-◌, ◌/◌, ◌≤◌, ◌<◌}
+use Prim.Native.Nat.{ℕ, zero, suc, ◌+◌, ◌-◌, ◌/◌, ◌≤◌, ◌<◌}
 use mathlib.Core.List.{List, [], ◌∷◌, ◌++◌, append-nil, append_assoc}
 use mathlib.Core.Path.{◌≡◌, refl, ap, ◌∙◌, sym}
 use native.Mathlib.Nat.{add-zero, zero-add}
 use native.Mathlib.Numerals.{add-one}
 use native.Mathlib.Omega.{arith}
 use lib.ListN.{length, set, get_or, take, drop, length-append, length-set, drop_of_length-le}
-use lib.Seq.{drop-cons, sets, sets-eq, drop-drop}
+use lib.Seq.{drop-cons, sets, sets-eq, drop-drop, length-take-le, take-add}
 use Rattle.protocol.specs.Bytes.{be}
 use Rattle.std.specs.Int.{to_be_bytes}
-use Rattle.std.proofs.lemmas.List.{take_more}
+use Rattle.std.proofs.lemmas.List.{take-append-drop, take_more}
 use Rattle.writers.specs.Writing.{write, joined, Wrote}
 use borrow.Rule.Slice.PartMut.{put_mid}
 use mir.Syntax.{w16, w32}
@@ -68,6 +68,58 @@ copied d p xs h e =
       size = refl;
       place = refl;
     }
+
+-- ---- bytes that are stored twice
+
+set_twice : (l : List ℕ) (i a : ℕ) → set (set l i a) i a ≡ set l i a
+set_twice [] i a = refl
+set_twice (x ∷ xs) zero a = refl
+set_twice (x ∷ xs) (suc i) a = ap (λ (r : List ℕ). x ∷ r) (set_twice xs i a)
+
+set_swap : (l : List ℕ) (i j a b : ℕ) → i < j → set (set l j b) i a ≡ set (set l i a) j b
+set_swap [] i j a b h = refl
+set_swap (x ∷ xs) i zero a b h = absurd (omega arith)
+set_swap (x ∷ xs) zero (suc j) a b h = refl
+set_swap (x ∷ xs) (suc i) (suc j) a b h = ap (λ (r : List ℕ). x ∷ r) (set_swap xs i j a b (omega arith))
+
+set_before : (d : List ℕ) (p q x : ℕ) (ys : List ℕ) → q < p → set (write d p ys) q x ≡ write (set d q x) p ys
+set_before d p q x [] h = refl
+set_before d p q x (y ∷ ys) h =
+    set_before (set d p y) (p + 1) q x ys (omega arith) ∙ ap (λ (e : List ℕ). write e (p + 1) ys) (set_swap d q p x y h)
+
+-- a run of stores, after one of its first part
+over : (d : List ℕ) (p : ℕ) (xs : List ℕ) (k : ℕ) → write (write d p (take k xs)) p xs ≡ write d p xs
+over d p xs zero = refl
+over d p [] (suc k) = refl
+over d p (x ∷ xs) (suc k) =
+    let e : set (write (set d p x) (p + 1) (take k xs)) p x ≡ write (set d p x) (p + 1) (take k xs) =
+    set_before (set d p x) (p + 1) p x (take k xs) (omega arith) ∙ ap (λ (l : List ℕ). write l (p + 1) (take k xs)) (set_twice d p x) in
+    rw e (over (set d p x) (p + 1) xs k)
+
+-- the first i bytes, and then n bytes from i on
+parted : (d s : List ℕ) (at i n : ℕ) → i ≤ length s → write (write d at (take i s)) (at + i) (take n (drop i s)) ≡ write d at (take (i + n) s)
+parted d s at i n h =
+    let e : at + i ≡ at + length (take i s) = omega (arith, length-take-le i s h) in
+    rw (e, take-add i n s) (write_append d at (take i s) (take n (drop i s)))
+
+-- the first i bytes and then the last, which may be among them
+ends : (d s : List ℕ) (at i j : ℕ) → j ≤ i → i ≤ length s → write (write d at (take i s)) (at + j) (drop j s) ≡ write d at s
+ends d s at i j low h =
+    let m = write d at (take j s) in
+    let e : at + j ≡ at + length (take j s) = omega (arith, length-take-le j s (omega arith)) in
+    let f : j + (i - j) ≡ i = omega arith in
+    let g : write m (at + j) (take (i - j) (drop j s)) ≡ write d at (take i s) = rw f at (parted d s at j (i - j) (omega arith)) in
+    let k : write m (at + j) (drop j s) ≡ write d at s = rw (e, write_append d at (take j s) (drop j s), take-append-drop j s) refl in
+    rw (← g) (over m (at + j) (drop j s) (i - j) ∙ k)
+
+-- the first n bytes and the last n, of which each is stored by one or both
+pub ended : {d mid out first last : List ℕ} {at q n next : ℕ} (s : List ℕ) → first ≡ take n s → last ≡ drop (length s - n) s → Wrote d at first n mid q
+    → Wrote mid (at + (length s - n)) last n out next → n ≤ length s → length s ≤ n + n → Wrote d at s (length s) out next
+ended {d} {mid} {out} {first} {last} {at} {q} {n} s e f v w low high =
+    let b : out ≡ write mid (at + (length s - n)) (drop (length s - n) s) = rw f at w.bytes in
+    let a : mid ≡ write d at (take n s) = rw e at v.bytes in
+    let g : write mid (at + (length s - n)) (drop (length s - n) s) ≡ write d at s = rw a (ends d s at n (length s - n) (omega arith) low) in
+    record { bytes = b ∙ g; size = refl; place = omega (arith, w.place) }
 
 -- ---- the same bytes in other words
 

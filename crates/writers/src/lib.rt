@@ -8,7 +8,7 @@ pub mod errors;
 pub mod texts;
 pub mod values;
 
-ghost use Rattle.std.specs.Prelude.{ℕ, ◌+◌, ◌-◌, ◌*◌, ◌≤◌, min, ◌&&◌, true, List, [], ◌++◌, ◌∷◌, ◌≡◌, leb, length};
+ghost use Rattle.std.specs.Prelude.{ℕ, ◌+◌, ◌-◌, ◌*◌, ◌^◌, ◌≤◌, ◌<◌, min, ◌&&◌, true, List, [], ◌++◌, ◌∷◌, ◌≡◌, leb, length};
 ghost use Rattle.std.proofs.Common.{lit≤};
 ghost use Rattle.protocol.specs.Bytes.{be, bits_of, no_zero};
 ghost use Rattle.protocol.specs.Encode.{items};
@@ -95,10 +95,56 @@ pub fn verdict_untyped(able: bool, limit: u32, size: usize, room: usize) -> Resu
 
 // ---- stores, which ask for their room: the writers, below, look for it
 
+// Bytes whose number the compiler knows: it makes a store or two of them, where the library's copy is called for others.
+fn store_block<const N: usize>(out: &mut [u8], at: usize, block: &[u8; N]) -> usize
+    requires { at + N ≤ length out.old }
+    ensures { Wrote out.old at block.now N out.new result }
+{
+    let end = at + N;
+    out[at..end].copy_from_slice(block);
+    end
+}
+
+// The first N bytes and the last N, which may meet.
+fn store_ends<const N: usize>(out: &mut [u8], at: usize, s: &[u8]) -> usize
+    requires room { at + length s.now ≤ length out.old }
+    requires parts { (N ≤ length s.now) × (length s.now ≤ N + N) }
+    requires small { N < 2 ^ 63 }
+    ensures { Wrote out.old at s.now (length s.now) out.new result }
+{
+    let first = s.first_chunk::<N>().unwrap();
+    let last = s.last_chunk::<N>().unwrap();
+    store_block(out, at, first);
+    store_block(out, at + (s.len() - N), last)
+}
+
+// Fewer than 16 bytes, as most strings and values have.
+fn store_short(out: &mut [u8], at: usize, s: &[u8]) -> usize
+    requires { (at + length s.now ≤ length out.old) × (length s.now < 16) }
+    ensures { Wrote out.old at s.now (length s.now) out.new result }
+{
+    if 8 <= s.len() {
+        return store_ends::<8>(out, at, s);
+    }
+    if 4 <= s.len() {
+        return store_ends::<4>(out, at, s);
+    }
+    if 2 <= s.len() {
+        return store_ends::<2>(out, at, s);
+    }
+    match s {
+        [] => at,
+        [only, ..] => store_block(out, at, &[*only]),
+    }
+}
+
 fn store_bytes(out: &mut [u8], at: usize, s: &[u8]) -> usize
     requires { at + length s.now ≤ length out.old }
     ensures { Wrote out.old at s.now (length s.now) out.new result }
 {
+    if s.len() < 16 {
+        return store_short(out, at, s);
+    }
     let end = at + s.len();
     out[at..end].copy_from_slice(s);
     end
@@ -108,14 +154,14 @@ fn store_half(out: &mut [u8], at: usize, half: u16) -> usize
     requires { at + 2 ≤ length out.old }
     ensures { Wrote out.old at (be 2 half) 2 out.new result }
 {
-    store_bytes(out, at, &half.to_be_bytes())
+    store_block(out, at, &half.to_be_bytes())
 }
 
 fn store_word(out: &mut [u8], at: usize, word: u32) -> usize
     requires { at + 4 ≤ length out.old }
     ensures { Wrote out.old at (be 4 word) 4 out.new result }
 {
-    store_bytes(out, at, &word.to_be_bytes())
+    store_block(out, at, &word.to_be_bytes())
 }
 
 // A number that stands in lists: of a fixed width, which is small, so that no list's size wraps.
