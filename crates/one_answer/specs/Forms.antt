@@ -1,7 +1,6 @@
 -- A contract leaves one answer: what it says at two answers, and at two final buffers, makes them equal. This is said of each form that a contract
 -- has, for whatever stands in it; docs/CONTRACTS.md, "One answer", tells which functions have which form.
--- The exceptions: of a returned part (`decode::part`, `element::value_or`) a contract sees the contents alone, and of a number that no mode has
--- `Mode::try_from` promises the error alone, and not that the error holds the number.
+-- The exception: of a returned part (`decode::part`, `element::value_or`) a contract sees the contents alone.
 use Rattle.std.specs.Prelude.{ℕ, Bool, List, ◌≡◌, ℤ, Result, MatchResult}
 use Rattle.std.proofs.Math.Option.{Option}
 use Rattle.std.specs.Borrow.{Bor}

@@ -22,7 +22,7 @@ pub struct UnknownMode(pub u8);
 impl TryFrom<u8> for Mode {
     type Error = UnknownMode;
 
-    ghost try_from_gives = { λ n r. MatchResult r (λ m. mode_number m ≡ n) (λ _. 5 < n) };
+    ghost try_from_gives = { λ n r. MatchResult r (λ m. mode_number m ≡ n) (λ e. (5 < n) × (e.0 ≡ n)) };
 
     fn try_from(number: u8) -> Result<Mode, UnknownMode> {
         match number {
