@@ -1,12 +1,14 @@
 // The lines of a listing. Each has room for the longest. Like the writers that it calls, each takes the output and a place, and the place comes back advanced.
 ghost use Rattle.std.specs.Prelude.{◌+◌, ◌≤◌, ◌++◌, length};
 ghost use Rattle.protocol.specs.Stream.{refused};
+ghost use Rattle.protocol.specs.Told.{number_of};
 ghost use Rattle.listing.specs.Listing.{bad_line, end_line, end_told, frame_line, newline};
 ghost use Rattle.listing.specs.Text.{Wrote, decimal};
 
 use crate::names::put_name;
 use crate::text::put_number;
 use crate::{BadInput, End};
+use protocol::refusal::Refusal;
 use protocol::Message;
 use writers::{put_byte, put_bytes};
 
@@ -44,17 +46,17 @@ pub fn put_end(out: &mut [u8], at: usize, end: End, place: usize) -> usize
     match end {
         End::Whole => put_words(out, at, b"end whole ", place),
         End::NeedMore => put_words(out, at, b"end need-more ", place),
-        End::Refused(refusal) => put_refused(out, at, refusal.number(), place),
+        End::Refused(refusal) => put_refused(out, at, refusal, place),
     }
 }
 
-fn put_refused(out: &mut [u8], at: usize, number: u8, place: usize) -> usize
+fn put_refused(out: &mut [u8], at: usize, refusal: Refusal, place: usize) -> usize
     requires { at + 64 ≤ length out.old }
-    ensures wrote { Wrote out.old at (end_line (refused number) place) out.new result }
+    ensures wrote { Wrote out.old at (end_line (refused (number_of refusal)) place) out.new result }
     ensures upper_bound { result ≤ at + 64 }
 {
     let at = put_bytes(out, at, b"end refused ");
-    let at = put_number(out, at, number as usize);
+    let at = put_number(out, at, refusal.number() as usize);
     let at = put_byte(out, at, b' ');
     let at = put_number(out, at, place);
     put_byte(out, at, b'\n')

@@ -12,7 +12,7 @@ returns-in_default c = empty _ (omega (arith, c.in_default.len_below))
 pub returns-in_err-mode : goal.returns-in_err-mode
 returns-in_err-mode c =
     let p = err_from_is_err_and c.from_residual.result c.from_residual.ensures.1 in
-    rw (p.1, p.2) (unnamed_by _ (omega (arith, c.in-len1-up.len_at_least)) (omega (arith, c.type_inv.input 0)) c.in_err-mode.ensures)
+    rw (p.1, p.2) (unnamed_by _ (omega (arith, c.in-len1-up.len_at_least)) (omega (arith, c.type_inv.input 0)) c.in_err-mode.ensures.0)
 
 pub returns-then-stream-gt-MOST : goal.returns-then-stream-gt-MOST
 unfolding sized
