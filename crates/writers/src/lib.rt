@@ -95,13 +95,14 @@ pub fn verdict_untyped(able: bool, limit: u32, size: usize, room: usize) -> Resu
 
 // ---- stores, which ask for their room: the writers, below, look for it
 
-// Bytes whose number the compiler knows: it makes a store or two of them, where the library's copy is called for others.
-fn store_block<const N: usize>(out: &mut [u8], at: usize, block: &[u8; N]) -> usize
+// Bytes whose number the compiler knows: it makes a store or two of them, where the library's copy is called for others. They are a copy, so that it needs no
+// test whether they and the output meet.
+fn store_block<const N: usize>(out: &mut [u8], at: usize, block: [u8; N]) -> usize
     requires { at + N ≤ length out.old }
-    ensures { Wrote out.old at block.now N out.new result }
+    ensures { Wrote out.old at block.entry N out.new result }
 {
     let end = at + N;
-    out[at..end].copy_from_slice(block);
+    out[at..end].copy_from_slice(&block);
     end
 }
 
@@ -112,8 +113,8 @@ fn store_ends<const N: usize>(out: &mut [u8], at: usize, s: &[u8]) -> usize
     requires small { N < 2 ^ 63 }
     ensures { Wrote out.old at s.now (length s.now) out.new result }
 {
-    let first = s.first_chunk::<N>().unwrap();
-    let last = s.last_chunk::<N>().unwrap();
+    let first = *s.first_chunk::<N>().unwrap();
+    let last = *s.last_chunk::<N>().unwrap();
     store_block(out, at, first);
     store_block(out, at + (s.len() - N), last)
 }
@@ -134,7 +135,7 @@ fn store_short(out: &mut [u8], at: usize, s: &[u8]) -> usize
     }
     match s {
         [] => at,
-        [only, ..] => store_block(out, at, &[*only]),
+        [only, ..] => store_block(out, at, [*only]),
     }
 }
 
@@ -154,14 +155,14 @@ fn store_half(out: &mut [u8], at: usize, half: u16) -> usize
     requires { at + 2 ≤ length out.old }
     ensures { Wrote out.old at (be 2 half) 2 out.new result }
 {
-    store_block(out, at, &half.to_be_bytes())
+    store_block(out, at, half.to_be_bytes())
 }
 
 fn store_word(out: &mut [u8], at: usize, word: u32) -> usize
     requires { at + 4 ≤ length out.old }
     ensures { Wrote out.old at (be 4 word) 4 out.new result }
 {
-    store_block(out, at, &word.to_be_bytes())
+    store_block(out, at, word.to_be_bytes())
 }
 
 // A number that stands in lists: of a fixed width, which is small, so that no list's size wraps.
@@ -238,47 +239,53 @@ pub fn put_bytes(out: &mut [u8], at: usize, s: &[u8]) -> usize
     store_bytes(out, at, s)
 }
 
-// Two runs of bytes, one behind the other.
-fn put_both(out: &mut [u8], at: usize, first: &[u8], second: &[u8]) -> usize
-    ensures { Put true out.old at (first.now ++ second.now) (length first.now + length second.now) out.new result }
+fn put_block<const N: usize>(out: &mut [u8], at: usize, block: [u8; N]) -> usize
+    ensures { Put true out.old at block.entry N out.new result }
 {
-    if !room(out.len(), at, first.len() + second.len()) {
+    if !room(out.len(), at, N) {
         return at;
     }
-    let at = store_bytes(out, at, first);
-    store_bytes(out, at, second)
+    store_block(out, at, block)
 }
 
 pub fn put_byte(out: &mut [u8], at: usize, x: u8) -> usize
     ensures { Put true out.old at (x ∷ []) 1 out.new result }
 {
-    put_bytes(out, at, &[x])
+    put_block(out, at, [x])
 }
 
 pub fn put_half(out: &mut [u8], at: usize, x: u16) -> usize
     ensures { Put true out.old at (be 2 x) 2 out.new result }
 {
-    put_bytes(out, at, &x.to_be_bytes())
+    put_block(out, at, x.to_be_bytes())
 }
 
 pub fn put_word(out: &mut [u8], at: usize, x: u32) -> usize
     ensures { Put true out.old at (be 4 x) 4 out.new result }
 {
-    put_bytes(out, at, &x.to_be_bytes())
+    put_block(out, at, x.to_be_bytes())
 }
 
 // A value: its length, as the bits x, and its bytes.
 pub fn put_value(out: &mut [u8], at: usize, x: u32, s: &[u8]) -> usize
     ensures { Put true out.old at (be 4 x ++ s.now) (4 + length s.now) out.new result }
 {
-    put_both(out, at, &x.to_be_bytes(), s)
+    if !room(out.len(), at, 4 + s.len()) {
+        return at;
+    }
+    let at = store_word(out, at, x);
+    store_bytes(out, at, s)
 }
 
 // A string, with its zero byte.
 pub fn put_text(out: &mut [u8], at: usize, s: &[u8]) -> usize
     ensures { Put true out.old at (s.now ++ 0 ∷ []) (length s.now + 1) out.new result }
 {
-    put_both(out, at, s, &[0])
+    if !room(out.len(), at, s.len() + 1) {
+        return at;
+    }
+    let at = store_bytes(out, at, s);
+    store_block(out, at, [0])
 }
 
 // Three pairs of numbers, of four bytes and of two: those of a row's field. They are parameters, since a struct of the six would be FieldDescription over
@@ -330,6 +337,9 @@ pub fn put_head(out: &mut [u8], type_byte: u8, n: usize) -> usize
     if n < 5 || LARGE_FRAME < n {
         return 0;
     }
-    let len = (n - 1) as u32;
-    put_both(out, 0, &[type_byte], &len.to_be_bytes())
+    if !room(out.len(), 0, 5) {
+        return 0;
+    }
+    let at = store_block(out, 0, [type_byte]);
+    store_word(out, at, (n - 1) as u32)
 }
