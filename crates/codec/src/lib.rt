@@ -24,8 +24,8 @@ const MOST: u16 = MOST_SIGNED as u16;
 const NULL: u32 = u32::MAX;
 
 // Each step goes from a cursor to the next one, and answers the field with it: None where the field is cut, so that its refusal's place is the cursor's own;
-// a refusal with its place where there are several. A cursor is a
-// place alone: with the frame in it, each step's contract would have to say too that the next cursor has the same frame.
+// a refusal with its place where there are several. A cursor is a place alone: with the frame in it, each step's contract would have to say too that the next
+// cursor has the same frame.
 #[derive(Clone, Copy, Debug, PartialEq, Eq)]
 pub struct Cursor {
     pub at: usize,
@@ -216,7 +216,8 @@ impl Cursor {
         Ok(next)
     }
 
-    // Past `count` values, each checked. It is called, and put into no caller, so that its loop has the registers that it needs: 11 instructions a value.
+    // Past `count` values, each checked. It is called, and put into no caller, so that its loop has the registers that it needs: 12 instructions a value, and 14
+    // where it is put into Bind's decoder.
     #[inline(never)]
     pub fn pass_values(self, rules: Rules, frame: &[u8], count: usize) -> Result<Cursor, Refused>
         ensures { passed_read result ≡ pass_items rules nullable count frame.now self.at }
