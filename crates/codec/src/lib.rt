@@ -216,9 +216,7 @@ impl Cursor {
         Ok(next)
     }
 
-    // Past `count` values, each checked. It is called, and put into no caller, so that its loop has the registers that it needs: 12 instructions a value, and 14
-    // where it is put into Bind's decoder.
-    #[inline(never)]
+    // Past `count` values, each checked.
     pub fn pass_values(self, rules: Rules, frame: &[u8], count: usize) -> Result<Cursor, Refused>
         ensures { passed_read result ≡ pass_items rules nullable count frame.now self.at }
     {
