@@ -5,8 +5,8 @@ use crate::text::write_answer;
 use crate::{SPARE, boundary, direct, long};
 use protocol::Span;
 use protocol::data::FieldDescription;
+use test_cases::Output;
 use test_cases::case::first;
-use test_cases::{Output, filled};
 
 // The encoder's answer, and its output after the call. The boundary's, in an output of its own, are the same.
 fn answer_in(to: &mut Output, call: &Call<'_>, out: &mut [u8], other: &mut [u8]) {
@@ -19,11 +19,22 @@ fn answer_in(to: &mut Output, call: &Call<'_>, out: &mut [u8], other: &mut [u8])
 }
 
 // The same in outputs of `size` bytes. None where there is no such room.
-pub fn answer(to: &mut Output, call: &Call<'_>, size: usize) -> Option<()> {
-    let mut out: [u8; ROOM] = filled(SPARE);
-    let mut other: [u8; ROOM] = filled(SPARE);
+fn answer_of(
+    to: &mut Output,
+    call: &Call<'_>,
+    size: usize,
+    out: &mut [u8; ROOM],
+    other: &mut [u8; ROOM],
+) -> Option<()> {
     answer_in(to, call, out.get_mut(..size)?, other.get_mut(..size)?);
     Some(())
+}
+
+// The arrays are lent whole: the check would compute their values, to find the length of a part.
+pub fn answer(to: &mut Output, call: &Call<'_>, size: usize) -> Option<()> {
+    let mut out = [SPARE; ROOM];
+    let mut other = [SPARE; ROOM];
+    answer_of(to, call, size, &mut out, &mut other)
 }
 
 // A field with this name in the run, and with numbers whose bytes differ.

@@ -1,5 +1,5 @@
 // A case: a kind's name, sizes, and sections, each a letter and its numbers. What has another form is malformed.
-use crate::items::Items;
+use crate::store::Items;
 use protocol::kinds::{LARGE_FRAME, MOST_UNSIGNED};
 use test_cases::case::digit;
 

@@ -8,8 +8,8 @@ mod calls;
 mod case;
 mod direct;
 mod fields;
-mod items;
 mod long;
+mod store;
 mod text;
 
 use case::Case;

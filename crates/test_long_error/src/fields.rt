@@ -4,7 +4,7 @@ ghost use Rattle.std.specs.Prelude.{◌<◌};
 use codec::Cursor;
 use protocol::refusal::Refused;
 use protocol::{Span, rules_of};
-use test_cases::Output;
+use test_cases::{Output, filled};
 
 pub const COUNT: usize = 40000;
 
@@ -32,15 +32,15 @@ pub struct Fields {
 
 impl Fields {
     pub fn new() -> Fields {
-        let mut codes = [0u8; COUNT];
-        let mut joined = [0u8; COUNT];
+        let mut codes: [u8; COUNT] = filled(0);
+        let mut joined: [u8; COUNT] = filled(0);
         for (i, (code, letter)) in codes.iter_mut().zip(joined.iter_mut()).enumerate() {
             *code = code_of(i);
             *letter = letter_of(i);
         }
         Fields {
             codes,
-            lengths: [1; COUNT],
+            lengths: filled(1),
             joined,
         }
     }

@@ -1,5 +1,6 @@
 // What the encoders are given: element i tells its number, so that a list that is read from another place is seen.
 use protocol::kinds::MOST_UNSIGNED;
+use test_cases::filled;
 
 // Stands in every byte of an output before a call: no frame is read past its end.
 pub const SPARE: u8 = 238;
@@ -29,9 +30,9 @@ pub struct Given {
 impl Given {
     pub fn new() -> Given {
         let mut given = Given {
-            oids: [0; MOST_UNSIGNED],
-            formats: [0; MOST_UNSIGNED],
-            lengths: [0; MOST_UNSIGNED],
+            oids: filled(0),
+            formats: filled(0),
+            lengths: filled(0),
         };
         for i in 0..MOST_UNSIGNED {
             given.oids[i] = oid_of(i);

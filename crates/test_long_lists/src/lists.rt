@@ -13,7 +13,7 @@ use encode::{data, extendedquery};
 use protocol::kinds::{MOST_SIGNED, MOST_UNSIGNED};
 use protocol::refusal::Refused;
 use std::fmt;
-use test_cases::Output;
+use test_cases::{Output, filled};
 use test_cases::case::first;
 use test_cases::shown::{Hex, Shown};
 
@@ -114,7 +114,9 @@ fn write_elements(to: &mut Output, which: Which, frame: &[u8; ROOM], count: usiz
 fn write_cut(to: &mut Output, which: Which, frame: &[u8; ROOM], size: usize) {
     let mut cut = *frame;
     let [.., high, middle, low] = size.saturating_sub(1).to_be_bytes();
-    cut[2..5].copy_from_slice(&[high, middle, low]);
+    cut[2] = high;
+    cut[3] = middle;
+    cut[4] = low;
     write!(to, "cut to {size}: ");
     answers::write_decoded(to, which.mode(), decode::part(&cut, 0, size));
 }
@@ -133,7 +135,7 @@ fn write_frame(to: &mut Output, which: Which, frame: &[u8; ROOM], count: usize, 
 }
 
 fn answer(to: &mut Output, which: Which, count: usize, given: &Given) {
-    let mut out = [SPARE; ROOM];
+    let mut out: [u8; ROOM] = filled(SPARE);
     let encoded = which.encode(count, given, &mut out);
     write!(to, "{which} of {count}: {}", Shown(encoded));
     match encoded {

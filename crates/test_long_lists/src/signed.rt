@@ -5,7 +5,7 @@
 // A copy response has a format before its count, at 6, and its length is 7 + 2 * n; the limit of 8,192 is reached with 4,092, at 8,191.
 use crate::answers;
 use protocol::kinds::{MOST_SIGNED, MOST_UNSIGNED, SMALL};
-use test_cases::Output;
+use test_cases::{Output, filled};
 
 // Room for the longest frame and one byte more.
 const ROOM: usize = 622600;
@@ -48,7 +48,7 @@ impl Kind {
 
     // A frame of zero bytes, but for its type byte, its length and its count.
     fn zeros(self, length: u32, count: u16) -> [u8; ROOM] {
-        let mut frame = [0u8; ROOM];
+        let mut frame: [u8; ROOM] = filled(0);
         let at = if self.has_format() { 6 } else { 5 };
         frame[0] = self.type_byte();
         frame[1..5].copy_from_slice(&length.to_be_bytes());

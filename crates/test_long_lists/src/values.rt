@@ -8,7 +8,7 @@ use crate::given::SPARE;
 use encode::extendedquery;
 use protocol::Span;
 use protocol::refusal::Refused;
-use test_cases::Output;
+use test_cases::{Output, filled};
 use test_cases::shown::{Hex, Shown};
 
 const FOURS: usize = 10000;
@@ -44,12 +44,12 @@ struct Values {
 
 impl Values {
     fn new() -> Values {
-        let mut joined = [[0u8; 3]; FOURS];
+        let mut joined: [[u8; 3]; FOURS] = filled([0; 3]);
         for (four, bytes) in joined.iter_mut().enumerate() {
             *bytes = bytes_of(four);
         }
         Values {
-            lengths: [[1, 2, -1, 0]; FOURS],
+            lengths: filled([1, 2, -1, 0]),
             joined,
         }
     }
@@ -115,7 +115,7 @@ fn read_frame(to: &mut Output, frame: &[u8; ROOM]) -> Option<()> {
 
 pub fn answer(to: &mut Output) {
     let values = Values::new();
-    let mut frame = [SPARE; ROOM];
+    let mut frame: [u8; ROOM] = filled(SPARE);
     writeln!(
         to,
         "Bind of 40000 values: {}",

@@ -12,11 +12,11 @@ pub const ROW: usize = 16;
 // An answer and the Rust's, which begins at ROW.
 const BOTH: usize = 19;
 
+#[derive(Clone, Copy)]
 pub struct Case<'a> {
     pub mode: u8,
     pub frame: &'a [u8],
-    pub answer: [usize; ROW],
-    pub rust: Option<[usize; 3]>,
+    pub numbers: Numbers,
 }
 
 fn decimal(letter: u8) -> Option<u8> {
@@ -47,7 +47,7 @@ fn read_frame<'a>(text: &[u8], room: &'a mut [u8; ROOM]) -> Option<&'a [u8]> {
 
 // The numbers that are read so far, and the digits of the next one.
 #[derive(Clone, Copy)]
-struct Numbers {
+pub struct Numbers {
     all: [usize; BOTH],
     count: usize,
     next: Option<usize>,
@@ -102,6 +102,20 @@ impl Numbers {
         self.count = ROW;
         Some(())
     }
+
+    // What the library is to give.
+    pub fn answer(&self) -> &[usize] {
+        &self.all[..ROW]
+    }
+
+    // What the Rust gave, where the line has it.
+    pub fn rust(&self) -> Option<&[usize]> {
+        if ROW < self.count {
+            Some(&self.all[ROW..])
+        } else {
+            None
+        }
+    }
 }
 
 // None where the line is malformed.
@@ -111,11 +125,9 @@ pub fn read_case<'a>(line: &[u8], room: &'a mut [u8; ROOM]) -> Option<Case<'a>> 
     let mut parts = parts.next()?.splitn(2, |letter| *letter == b'=');
     let frame = read_frame(parts.next()?, room)?;
     let numbers = Numbers::read(parts.next()?)?;
-    let [answer @ .., a, b, c] = numbers.all;
     Some(Case {
         mode,
         frame,
-        answer,
-        rust: (ROW < numbers.count).then_some([a, b, c]),
+        numbers,
     })
 }

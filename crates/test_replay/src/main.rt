@@ -4,9 +4,9 @@
 
 mod case;
 
-use case::{Case, ROOM, ROW, read_case};
+use case::{ROOM, ROW, read_case};
 use std::io;
-use test_cases::Output;
+use test_cases::{Output, filled};
 use test_cases::case::Lines;
 
 // More letters than the list has.
@@ -25,24 +25,17 @@ const REFUSED: usize = 2;
 // takes a frame. The list has its answer exactly where the library does not refuse.
 fn holds(line: &[u8]) -> bool {
     let mut room = [0u8; ROOM];
-    let Some(
-        Case {
-            mode,
-            frame,
-            answer,
-            rust,
-        },
-    ) = read_case(line, &mut room)
-    else {
+    let Some(case) = read_case(line, &mut room) else {
         return false;
     };
     let mut got = [0usize; ROW];
-    host::decoding::tusweram_decode(mode, frame, &mut got);
-    let taken = match got[STATUS] {
-        REFUSED => None,
-        status => Some([status, got[CONSUMED], got[KIND]]),
+    host::decoding::tusweram_decode(case.mode, case.frame, &mut got);
+    let taken = [got[STATUS], got[CONSUMED], got[KIND]];
+    let agrees = match case.numbers.rust() {
+        Some(rust) => got[STATUS] != REFUSED && rust == taken.as_slice(),
+        None => got[STATUS] == REFUSED,
     };
-    got == answer && rust == taken
+    agrees && case.numbers.answer() == got.as_slice()
 }
 
 // The same of a line, which is written where it is wrong.
@@ -63,7 +56,7 @@ fn whole_lines(input: &[u8]) -> Lines<'_> {
 }
 
 fn main(rt: HostRuntime) -> io::Result<()> {
-    let mut room = [0u8; MOST];
+    let mut room: [u8; MOST] = filled(0);
     let input = test_cases::read_input(rt, &mut room)?;
     let mut to = Output::new(rt)?;
     let lines = whole_lines(input).count();
