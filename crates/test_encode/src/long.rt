@@ -23,8 +23,9 @@ struct Repeated<'a> {
 impl<'a> Repeated<'a> {
     // A start-up with the lengths that are given: the byte is joined, `len` times.
     fn with_lengths(self, case: &'a Case) -> Call<'a> {
+        let bytes = self.bytes;
         Call {
-            joined: part(self.bytes, 128, case.len()),
+            joined: part(bytes, 128, case.len()),
             ..Call::of(case)
         }
     }
@@ -32,21 +33,27 @@ impl<'a> Repeated<'a> {
     // `len` of the kind's lists, with the joined bytes that the lengths add up to, and of an error's codes; of a Bind that names a list, that one alone;
     // or, where the kind has no list, `len` bytes.
     fn call(self, case: &'a Case) -> Call<'a> {
+        let Repeated {
+            bytes,
+            words,
+            lengths,
+            formats,
+        } = self;
         let kind = case.kind();
         let named = case.named_list();
         let count_if = |given: bool| if given { case.len() } else { 0 };
         let listed = has_list(kind);
         let numbers = count_if(listed && named.is_none_or(|list| list == Section::Numbers));
-        let formats = count_if(listed && named.is_none_or(|list| list == Section::Formats));
-        let results = count_if(named == Some(Section::Results));
+        let format_count = count_if(listed && named.is_none_or(|list| list == Section::Formats));
+        let result_count = count_if(named == Some(Section::Results));
         let joined = (case.start() % 256).saturating_mul(numbers);
         Call {
-            one: first(self.bytes, count_if(!listed || is_error(kind))),
-            joined: part(self.bytes, 128, joined),
-            words: first(self.words, numbers),
-            lengths: first(self.lengths, numbers),
-            formats: first(self.formats, formats),
-            results: first(self.formats, results),
+            one: first(bytes, count_if(!listed || is_error(kind))),
+            joined: part(bytes, 128, joined),
+            words: first(words, numbers),
+            lengths: first(lengths, numbers),
+            formats: first(formats, format_count),
+            results: first(formats, result_count),
             ..Call::of(case)
         }
     }
