@@ -1,6 +1,6 @@
 // What the encoders are given: element i tells its number, so that a list that is read from another place is seen.
 use protocol::kinds::MOST_UNSIGNED;
-use test_cases::filled;
+use std::array;
 
 // Stands in every byte of an output before a call: no frame is read past its end.
 pub const SPARE: u8 = 238;
@@ -29,16 +29,10 @@ pub struct Given {
 
 impl Given {
     pub fn new() -> Given {
-        let mut given = Given {
-            oids: filled(0),
-            formats: filled(0),
-            lengths: filled(0),
-        };
-        for i in 0..MOST_UNSIGNED {
-            given.oids[i] = oid_of(i);
-            given.formats[i] = format_of(i);
-            given.lengths[i] = length_of(i);
+        Given {
+            oids: array::from_fn(oid_of),
+            formats: array::from_fn(format_of),
+            lengths: array::from_fn(length_of),
         }
-        given
     }
 }
