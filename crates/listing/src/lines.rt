@@ -8,8 +8,8 @@ ghost use Rattle.listing.specs.Text.{Wrote, decimal};
 use crate::names::put_name;
 use crate::text::put_number;
 use crate::{BadInput, End};
-use protocol::refusal::Refusal;
 use protocol::Message;
+use protocol::refusal::Refusal;
 use writers::{put_byte, put_bytes};
 
 // The line of a frame: its place, its kind's name and its bytes.

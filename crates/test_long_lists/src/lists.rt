@@ -13,9 +13,9 @@ use encode::{data, extendedquery};
 use protocol::kinds::{MOST_SIGNED, MOST_UNSIGNED};
 use protocol::refusal::Refused;
 use std::fmt;
-use test_cases::{Output, filled};
 use test_cases::case::first;
 use test_cases::shown::{Hex, Shown};
+use test_cases::{Output, filled};
 
 // Room for the longest frame and seven bytes more.
 const ROOM: usize = 262160;

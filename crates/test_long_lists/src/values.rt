@@ -8,8 +8,8 @@ use crate::given::SPARE;
 use encode::extendedquery;
 use protocol::Span;
 use protocol::refusal::Refused;
-use test_cases::{Output, filled};
 use test_cases::shown::{Hex, Shown};
+use test_cases::{Output, filled};
 
 const FOURS: usize = 10000;
 

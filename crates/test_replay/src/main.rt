@@ -6,8 +6,8 @@ mod case;
 
 use case::{ROOM, ROW, read_case};
 use std::io;
-use test_cases::{Output, filled};
 use test_cases::case::Lines;
+use test_cases::{Output, filled};
 
 // More letters than the list has.
 const MOST: usize = 2097152;

@@ -8,4 +8,4 @@ pub returns-clause-wrote : goal.returns-clause-wrote
 unfolding end_line
 returns-clause-wrote c =
     rw (sym c.number.ensures)
-        (c.put_bytes-at.ensures.fits refl (omega arith) then c.put_number-at.ensures.wrote then c.put_byte-at.ensures.fits refl (omega arith) then c.put_number-at-2.ensures.wrote then c.put_byte.ensures.fits refl (omega arith))
+    (c.put_bytes-at.ensures.fits refl (omega arith) then c.put_number-at.ensures.wrote then c.put_byte-at.ensures.fits refl (omega arith) then c.put_number-at-2.ensures.wrote then c.put_byte.ensures.fits refl (omega arith))
