@@ -11,7 +11,7 @@ use protocol::data::{
 };
 use protocol::kinds::{LARGE, MOST_SIGNED, MOST_UNSIGNED};
 use protocol::refusal::Refused;
-use row_fields::{Pass, begin, each};
+use row_fields::{Pass, begin, each, writing_pass};
 use writers::values::values_given;
 use writers::{plus, put_head, put_oids, verdict};
 
@@ -30,12 +30,7 @@ pub fn row_description(
     };
     let measured = each(fields, run, out, measuring);
     let n = begin(measured, fields.len(), out)?;
-    let writing = Pass {
-        at: 7,
-        ok: true,
-        writing: true,
-    };
-    each(fields, run, out, writing);
+    each(fields, run, out, writing_pass(Ok(n)));
     Ok(n)
 }
 

@@ -5,7 +5,7 @@ use mathlib.Core.Path.{◌≡◌, refl, ap, sym, ◌∙◌}
 use native.Mathlib.Omega.{arith}
 use lib.ListN.{length, length-append}
 use Rattle.listing.specs.declared.Left.{Left}
-use Rattle.listing.specs.declared.Line.{Line}
+use Rattle.listing.specs.declared.Filled.{Filled}
 use Rattle.listing.specs.Listing.{Lines, line_of, lines_of, Lined, Fills}
 use Rattle.writers.specs.Writing.{write}
 use Rattle.writers.proofs.Laws.{turn}
@@ -27,7 +27,7 @@ pub record Rest (input : List ℕ) (k : ℕ) (left : Left) (d : List ℕ) (p : �
   pub count : p + length (lines_of k input left).text ≡ length all.text
   pub after : (lines_of k input left).left ≡ all.left
 
-pub next : {input : List ℕ} {k : ℕ} {left : Left} {d : List ℕ} {p : ℕ} {room : List ℕ} {all : Lines} {out : List ℕ} {r : Line} → 1 ≤ k → Rest input k left d p room all → Lined (line_of input left) d p out r → Rest input (k - 1) r.left out r.end room all
+pub next : {input : List ℕ} {k : ℕ} {left : Left} {d : List ℕ} {p : ℕ} {room : List ℕ} {all : Lines} {out : List ℕ} {r : Filled} → 1 ≤ k → Rest input k left d p room all → Lined (line_of input left) d p out r → Rest input (k - 1) r.left out r.count room all
 next {input} {k} {left} {d} {p} {room} {all} {out} {r} h q l =
     let e = lines_more k input left h in
     let t = lines_of (k - 1) input (line_of input left).left in

@@ -14,7 +14,6 @@ use Rattle.writers.specs.Writing.{write}
 use Rattle.listing.specs.declared.Left.TheVariants as L
 use Rattle.listing.specs.declared.Left.{Left}
 use Rattle.listing.specs.declared.Filled.{Filled}
-use Rattle.listing.specs.declared.Line.{Line}
 use Rattle.listing.specs.declared.BadInput.TheVariants as B
 use Rattle.listing.specs.declared.BadInput.{BadInput}
 use Rattle.listing.specs.declared.End.TheVariants as E
@@ -163,10 +162,10 @@ bad_line B.NoMode = end_mode
 bad_line B.Oversize = end_oversize
 
 -- a line stands at p, in no more than 64 bytes
-pub record Lined (line : Lines) (d : List ℕ) (p : ℕ) (out : List ℕ) (r : Line) : Type 0 where
-  pub wrote : Wrote d p line.text out r.end
+pub record Lined (line : Lines) (d : List ℕ) (p : ℕ) (out : List ℕ) (r : Filled) : Type 0 where
+  pub wrote : Wrote d p line.text out r.count
   pub left : r.left ≡ line.left
-  pub short : r.end ≤ p + 64
+  pub short : r.count ≤ p + 64
 
 -- these lines are at the start of the room, and all else in it is as it was
 pub record Fills (lines : Lines) (room out : List ℕ) (r : Filled) : Type 0 where

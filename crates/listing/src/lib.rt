@@ -65,7 +65,7 @@ pub enum Left {
     Nothing,
 }
 
-// How many bytes were written, and what is left.
+// Where what was written ends, which is how many bytes it has from the output's start on, and what is left.
 #[derive(Clone, Copy, Debug, PartialEq, Eq)]
 pub struct Filled {
     pub count: usize,
@@ -96,62 +96,55 @@ pub fn opening_of(input: &[u8]) -> Result<Mode, BadInput>
     Ok(mode)
 }
 
-// Where a line ends in the output, and what is left after it.
-#[derive(Clone, Copy)]
-struct Line {
-    end: usize,
-    left: Left,
-}
-
-impl Line {
-    // A line after which nothing is left.
-    fn last(end: usize) -> Line
-        ensures { result ≡ record { end = end; left = L.Nothing } }
+impl Filled {
+    // Nothing is left.
+    fn last(count: usize) -> Filled
+        ensures { result ≡ record { count = count; left = L.Nothing } }
     {
-        Line {
-            end,
+        Filled {
+            count,
             left: Left::Nothing,
         }
     }
 }
 
 // The line at a place of a stream.
-fn put_step(mode: Mode, stream: &[u8], place: usize, out: &mut [u8], at: usize) -> Line
+fn put_step(mode: Mode, stream: &[u8], place: usize, out: &mut [u8], at: usize) -> Filled
     requires { at + 64 ≤ length out.old }
     ensures { Lined (step_line place (step_at (rules_of (mode_number mode)) stream.now place)) out.old at out.new result }
 {
     match step_at(mode as u8, stream, place) {
-        Ok((message, bytes)) => Line {
-            end: put_frame(out, at, place, message, bytes),
+        Ok((message, bytes)) => Filled {
+            count: put_frame(out, at, place, message, bytes),
             left: Left::From(place + bytes),
         },
-        Err(end) => Line::last(put_end(out, at, end, place)),
+        Err(end) => Filled::last(put_end(out, at, end, place)),
     }
 }
 
 // The line at a place of an input's stream, or what is wrong with the input.
-fn put_from(input: &[u8], place: usize, out: &mut [u8], at: usize) -> Line
+fn put_from(input: &[u8], place: usize, out: &mut [u8], at: usize) -> Filled
     requires { at + 64 ≤ length out.old }
     ensures { Lined (line_from (opening_of input.now) (drop 1 input.now) place) out.old at out.new result }
 {
     match opening_of(input) {
         Ok(mode) => put_step(mode, &input[1..], place, out, at),
-        Err(bad) => Line::last(put_bad(out, at, bad)),
+        Err(bad) => Filled::last(put_bad(out, at, bad)),
     }
 }
 
 // The next line.
-fn put_line(input: &[u8], left: Left, out: &mut [u8], at: usize) -> Line
+fn put_line(input: &[u8], left: Left, out: &mut [u8], at: usize) -> Filled
     requires { at + 64 ≤ length out.old }
     ensures { Lined (line_of input.now left) out.old at out.new result }
 {
     match left {
-        Left::All => Line {
-            end: put_bytes(out, at, b"at kind bytes\n"),
+        Left::All => Filled {
+            count: put_bytes(out, at, b"at kind bytes\n"),
             left: Left::From(0),
         },
         Left::From(place) => put_from(input, place, out, at),
-        Left::Nothing => Line::last(at),
+        Left::Nothing => Filled::last(at),
     }
 }
 
@@ -159,12 +152,9 @@ fn put_line(input: &[u8], left: Left, out: &mut [u8], at: usize) -> Line
 pub fn fill(input: &[u8], left: Left, out: &mut [u8]) -> Filled
     ensures { Fills (lines_of (length out.old / 64) input.now left) out.old out.new result }
 {
-    let mut line = Line { end: 0, left };
+    let mut filled = Filled { count: 0, left };
     for _ in 0..out.len() / 64 {
-        line = put_line(input, line.left, out, line.end);
+        filled = put_line(input, filled.left, out, filled.count);
     }
-    Filled {
-        count: line.end,
-        left: line.left,
-    }
+    filled
 }

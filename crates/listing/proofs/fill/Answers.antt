@@ -10,7 +10,7 @@ loop-init c =
 
 pub loop-preserved : goal.loop-preserved
 loop-preserved c =
-    let line = c.put_line-line.ensures in
+    let line = c.put_line-filled.ensures in
     let less : length c.args.out.now / 64 - (c.loop.counter + 1) ≡ length c.args.out.now / 64 - c.loop.counter - 1 = omega arith in
     (omega (arith, line.short), rw less (next (omega arith) c.loop.invariant.1 line))
 

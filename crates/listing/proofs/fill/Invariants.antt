@@ -6,5 +6,5 @@ use Rattle.listing.proofs.fill.Given as goal
 
 abbrev pub invariant-loop : goal.invariant-loop
 invariant-loop l =
-    (l.line.end + 64 * (length l.initial.out / 64 - l.counter) ≤ length l.initial.out)
-    × Rest l.input (length l.initial.out / 64 - l.counter) l.line.left l.out l.line.end l.initial.out (lines_of (length l.initial.out / 64) l.input l.initial.line.left)
+    (l.filled.count + 64 * (length l.initial.out / 64 - l.counter) ≤ length l.initial.out)
+    × Rest l.input (length l.initial.out / 64 - l.counter) l.filled.left l.out l.filled.count l.initial.out (lines_of (length l.initial.out / 64) l.input l.initial.filled.left)

@@ -14,4 +14,4 @@ returns-in_err-n c = let a = c.args in
 pub returns : goal.returns
 unfolding writing_pass
 returns c = let a = c.args in
-    joined a.fields.now a.run.now a.out.now (omega arith) c.each-measured.ensures.0 c.each-measured.ensures.1 c.in_ok-n.ensures.0 c.in_ok-n.ensures.1 refl c.each.ensures.1
+    joined a.fields.now a.run.now a.out.now (omega arith) c.each-measured.ensures.0 c.each-measured.ensures.1 c.in_ok-n.ensures.0 c.in_ok-n.ensures.1 c.writing_pass.ensures c.each.ensures.1
