@@ -1,6 +1,7 @@
 // The cursor over one frame, as codec.rs reads a buffer: it goes in by value and comes back advanced, or the answer is a fault.
 // The frame ends where the lent slice ends, so nothing past it can be read.
-// Its functions are inner: for crates of this library alone (docs/INNER.md). The answers' types are a frame reader's too.
+// Its functions are inner: for crates of this library alone (docs/INNER.md). Those for a byte, a half and a word stay three, as their types do: a generic one would
+// want a trait of three impls for `from_be_bytes`, which is longer than they are.
 #![tactic(auto)]
 
 ghost use Rattle.std.specs.Prelude.{◌+◌, ◌*◌, ◌/◌, ◌%◌, ◌^◌, ◌≤◌, ◌<◌, ◌≡◌, ltb, get_or, length};
@@ -21,7 +22,7 @@ use scan::zero_from;
 const MOST: u16 = MOST_SIGNED as u16;
 
 // The length word that stands for NULL: -1.
-const NULL: u32 = u32::MAX;
+pub const NULL: u32 = u32::MAX;
 
 // Each step goes from a cursor to the next one, and answers the field with it: None where the field is cut, so that its refusal's place is the cursor's own;
 // a refusal with its place where there are several. A cursor is a place alone: with the frame in it, each step's contract would have to say too that the next
@@ -68,7 +69,8 @@ fn word_at(s: &[u8], at: usize) -> u32
     u32::from_be_bytes([s[at], s[at + 1], s[at + 2], s[at + 3]])
 }
 
-// Where the places end at which a length word fits; 0 where there is none, or the frame is too long for the test below.
+// Where the places end at which a length word fits; 0 where there is none, or the frame is too long for the test below. It is no Option: no place is below 0, so
+// that one comparison tells both.
 fn words_end(frame: &[u8]) -> usize
     ensures { WordsEnd frame.now result }
 {

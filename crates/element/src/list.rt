@@ -8,7 +8,7 @@ ghost use Rattle.element.specs.OneList.{item_of, listed_of, only};
 use protocol::extendedquery::Bind;
 use protocol::{List, Message};
 
-// A sort of item.
+// A sort of item. The message tells it, so it is a value; the type that reads it is chosen in one place (`sorted_at`).
 #[derive(Clone, Copy, Debug, PartialEq, Eq)]
 pub enum Sort {
     Oid,

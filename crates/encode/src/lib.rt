@@ -1,5 +1,6 @@
 // An encoder for each kind, in the module of its Rust file. Everything is checked before the first byte is written.
-// The tests of the arguments are joined by `&`: `&&` is no plainer here, and was tried: its proofs split by which tests are skipped.
+// The tests of the arguments are joined by `&`, as in `row_fields` and `row_builder`: `&&` is no plainer here, and was tried: its proofs split by which tests are skipped.
+// Output and place go beside each other, as in `writers`.
 #![tactic(auto)]
 
 pub mod cancel;
@@ -47,7 +48,8 @@ fn one_text(type_byte: u8, s: &[u8], out: &mut [u8]) -> Result<usize, Refused>
     Ok(n)
 }
 
-// ---- values, which come as lengths (-1 for NULL) and their joined bytes: so a host in C lends them, and an argument of an encoder is one of its exports
+// ---- values, which come as lengths (-1 for NULL) and their joined bytes: so a host in C lends them, and an argument of an encoder is one of its exports. Errors and
+// start-up arguments come so too (`put_errors`, `put_parameters`); the three walks write other things for each, and one of them with closures is no plainer.
 
 // Their count; then the length of each, and its bytes.
 fn put_values(out: &mut [u8], at: usize, lengths: &[i32], joined: &[u8]) -> usize

@@ -55,7 +55,7 @@ pub fn typed(buf: &[u8], line: Line) -> Result<&[u8], Unread>
     Ok(&buf[..end])
 }
 
-// The frame, of its length and then a code.
+// The frame, of its length and then a code. It waits for the code too, so that one function for both would have to be told which it is.
 pub fn untyped(buf: &[u8], line: Line) -> Result<&[u8], Unread>
     ensures { MatchResult result (λ f. Framed (end_in K.untyped line buf.now) buf.now f.now) (λ u. unread u ≡ end_in K.untyped line buf.now) }
 {

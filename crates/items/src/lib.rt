@@ -1,4 +1,6 @@
 // The items of lists, and the lists that are walked. What a kind's decoder reads of an item, an element call reads too.
+// Rules, frame and cursor go beside each other and in no struct, as in `codec`: a cursor is a place alone. Each step is opened by `let .. else`, the form that the
+// paper names for a caller that leaves early.
 // Inner: for crates of this library alone (docs/INNER.md).
 #![tactic(auto)]
 

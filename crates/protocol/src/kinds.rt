@@ -10,8 +10,8 @@ pub const LARGE: u32 = 1048576;
 
 pub const SMALL: u32 = 8192;
 
-// A line, of the parts named above. It has no field names, and its name is filled up with spaces in place of a slice, so that a table's line is one
-// line for the eye, with its parts in columns.
+// A line, of the parts named above. It has no field names, so that a table's line is one line for the eye, with its parts in columns. Its name is filled up with
+// spaces and is no slice: `tables::letters_in`, which docs/INNER.md promises of such an array, is what the listing and a test program count by.
 #[derive(Clone, Copy, Debug, PartialEq, Eq)]
 pub struct Line(pub [u8; 20], pub u32, pub u32, pub u32, pub u8);
 

@@ -1,4 +1,5 @@
-// Where a buffer's bytes come from (docs/FORMAT.md 1), by the number that a host names.
+// Where a buffer's bytes come from (docs/FORMAT.md 1), by the number that a host names. Public calls and rules keep the number, as the C interface has it; what
+// chooses by a mode makes a Mode of it.
 ghost use Rattle.std.specs.Prelude.{◌≡◌, ◌<◌, MatchResult};
 ghost use Rattle.protocol.specs.Told.{mode_number};
 

@@ -1,5 +1,5 @@
-// A frame reader that keeps a reference to the frame's bytes, for hosts that read field after field. Each of its methods takes the
-// reader apart and leaves the work to a function over a plain slice and a place, which calls the cursor.
+// A frame reader that keeps a reference to the frame's bytes, for hosts that read field after field. Each method that reads takes
+// the reader apart and leaves the work to a function over a plain slice and a place, which calls the cursor.
 #![tactic(auto)]
 
 ghost use Rattle.std.specs.Prelude.{◌≡◌};

@@ -1,4 +1,4 @@
-// A whole DataRow in one pass: where each value starts, and how long it is.
+// A whole DataRow in one pass: where each value starts, and how long it is, in two lists and not in one of pairs, since C lends them so.
 ghost use Rattle.std.specs.Prelude.{ℕ, ◌≤◌, ◌≡◌, length};
 ghost use Rattle.protocol.specs.Decode.{decode_of};
 ghost use Rattle.protocol.specs.Reading.{read_value};

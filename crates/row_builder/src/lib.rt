@@ -1,5 +1,6 @@
 // A row that is built column by column, at the start of a lent room. The caller keeps the row's count and size beside the room; each call
-// looks first whether decoding the room gives that row, and so takes any two numbers and any bytes.
+// looks first whether decoding the room gives that row, and so takes any two numbers and any bytes. Row and room are no one struct: C has them apart, and a struct
+// that kept the room lent would forbid the caller to read it.
 #![tactic(auto)]
 
 ghost use Rattle.std.specs.Prelude.{◌+◌, ◌^◌, ◌≤◌, ◌<◌, [], ◌≡◌, length};
@@ -12,7 +13,7 @@ ghost use Rattle.row_builder.specs.Building as B;
 ghost use Rattle.row_builder.specs.Building.{built};
 ghost use Rattle.row_builder.specs.Steps as S;
 
-use codec::Cursor;
+use codec::{Cursor, NULL};
 use envelope::{TYPED_BODY, typed};
 use protocol::data::MESSAGE_TYPE_BYTE_DATA_ROW;
 use protocol::kinds::{LARGE, MOST_SIGNED};
@@ -29,9 +30,6 @@ pub struct Row {
 
 // An empty row's bytes: type byte, length word and count.
 const HEAD: usize = 7;
-
-// The length word that stands for NULL: -1.
-const NULL: u32 = u32::MAX;
 
 // Past some columns of a frame, and past those behind them to the frame's end: where the ones behind start.
 fn walked(columns: usize, behind: usize, frame: &[u8]) -> Option<usize>

@@ -16,7 +16,8 @@ use protocol::refusal::Refused;
 use writers::{bits16, bits32, no_zero, plus, put_half, put_head, put_pairs, put_text, verdict};
 
 // How far a pass is: the next byte's place, whether every name so far can be written, and whether the pass writes. The place goes on where a name
-// cannot be written, as the definitions tell it (specs/Passes.antt): so `at` is no Option in place of `ok`.
+// cannot be written, as the definitions tell it (specs/Passes.antt): so `at` is no Option in place of `ok`. `writing` is a flag and no closure: what a field measures
+// and what it writes are said of one step, and so cannot differ.
 #[derive(Clone, Copy)]
 pub struct Pass {
     pub at: usize,

@@ -51,6 +51,7 @@ impl Output {
 }
 
 // Standard input up to its end, put at the start of `room`; of a longer one, as much as there is room for. It may arrive in pieces.
+// A loop over `read`, since the library's read_to_end wants a heap.
 pub fn read_input(rt: HostRuntime, room: &mut [u8]) -> io::Result<&[u8]> {
     let mut input = rt.stdin();
     let mut count: usize = 0;
@@ -83,6 +84,9 @@ pub fn answer_lines<F: FnMut(&mut Output, &[u8]) -> Option<()>>(
         writeln!(to);
     }
 }
+
+// Stands in every byte of an output or a room before a call, so that a byte that is written where none should be is seen.
+pub const SPARE: u8 = 238;
 
 // One item over and over. Its length alone is said: the check would compute a long array's value.
 pub fn filled<T: Copy, const N: usize>(item: T) -> [T; N]

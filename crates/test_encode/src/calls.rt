@@ -2,11 +2,11 @@
 use crate::call::Call;
 use crate::case::{Case, ROOM};
 use crate::text::write_answer;
-use crate::{SPARE, boundary, direct, long};
+use crate::{boundary, direct, long};
 use protocol::Span;
 use protocol::data::FieldDescription;
-use test_cases::Output;
 use test_cases::case::first;
+use test_cases::{Output, SPARE};
 
 // The encoder's answer, and its output after the call. The boundary's, in an output of its own, are the same.
 fn answer_in(to: &mut Output, call: &Call<'_>, out: &mut [u8], other: &mut [u8]) {

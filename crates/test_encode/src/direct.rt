@@ -1,4 +1,4 @@
-// The encoder of each kind, by the kind's number. The kinds go by the Rust's files: one function of all of them takes the checker far longer.
+// The encoder of each kind, by the kind's number, by which the boundary is called in the same case. The kinds go by the Rust's files: one function of all of them takes the checker far longer.
 // Where there is no encoder, for a kind or an answer that is none, it is 2 at place 0, which is the boundary's answer.
 use crate::call::Call;
 use crate::fields::description_of;

@@ -16,9 +16,6 @@ use case::Case;
 use std::io;
 use test_cases::Output;
 
-// Stands in every byte of an output before a call: what an encoder leaves is seen.
-pub const SPARE: u8 = 238;
-
 fn answer(to: &mut Output, line: &[u8]) -> Option<()> {
     let case = Case::read(line)?;
     calls::answer_case(to, &case)

@@ -11,9 +11,6 @@ pub const COUNT: usize = 40000;
 // Room for the frame and four bytes more.
 pub const ROOM: usize = 120010;
 
-// Stands in every byte of an output before a call: what an encoder leaves is seen.
-pub const SPARE: u8 = 238;
-
 fn code_of(i: usize) -> u8 {
     (1 + i % 255) as u8
 }

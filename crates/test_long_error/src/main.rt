@@ -5,11 +5,11 @@
 
 mod fields;
 
-use fields::{Fields, ROOM, SPARE};
+use fields::{Fields, ROOM};
 use protocol::{Element, Message};
 use std::io;
 use test_cases::shown::{Hex, Shown};
-use test_cases::{Output, filled};
+use test_cases::{Output, SPARE, filled};
 
 // The error, written into an output, and how many of the last bytes are as they were before the call.
 fn write_in(to: &mut Output, fields: &Fields, out: &mut [u8]) {

@@ -2,9 +2,6 @@
 use protocol::kinds::MOST_UNSIGNED;
 use std::array;
 
-// Stands in every byte of an output before a call: no frame is read past its end.
-pub const SPARE: u8 = 238;
-
 // The remainders change no number that is given; they spare a proof that it fits.
 fn oid_of(i: usize) -> u32 {
     1000 + (i % 100000) as u32

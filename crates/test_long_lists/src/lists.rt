@@ -8,19 +8,20 @@
 // Behind a Bind's first formats stand two counts of 0, which are 4 bytes, and behind its values one. In a frame that is cut behind the list's last
 // element its count still fits: if there is a fault, it is the next count, which is cut (6). With one byte less it is the list's own count (5).
 use crate::answers;
-use crate::given::{Given, SPARE};
+use crate::given::Given;
 use encode::{data, extendedquery};
 use protocol::kinds::{MOST_SIGNED, MOST_UNSIGNED};
 use protocol::refusal::Refused;
 use std::fmt;
 use test_cases::case::first;
 use test_cases::shown::{Hex, Shown};
-use test_cases::{Output, filled};
+use test_cases::{Output, SPARE, filled};
 
 // Room for the longest frame and seven bytes more.
 const ROOM: usize = 262160;
 
-// The list that is long; all others of its frame are empty.
+// The list that is long; all others of its frame are empty. Mode, number, encoder and type byte of each stand below, one after the other: a struct of closures would
+// say them no plainer.
 #[derive(Clone, Copy)]
 enum Which {
     TypeOids,

@@ -4,12 +4,11 @@
 ghost use Rattle.std.specs.Prelude.{◌<◌};
 
 use crate::answers;
-use crate::given::SPARE;
 use encode::extendedquery;
 use protocol::Span;
 use protocol::refusal::Refused;
 use test_cases::shown::{Hex, Shown};
-use test_cases::{Output, filled};
+use test_cases::{Output, SPARE, filled};
 
 const FOURS: usize = 10000;
 

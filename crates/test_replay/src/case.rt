@@ -23,7 +23,7 @@ fn decimal(letter: u8) -> Option<u8> {
     digit(letter).filter(|digit| *digit <= 9)
 }
 
-// The mode is one digit.
+// The mode is a number: of more digits than one, the last.
 fn read_mode(text: &[u8]) -> Option<u8> {
     text.iter().try_fold(0, |_, letter| decimal(*letter))
 }

@@ -4,9 +4,6 @@ use std::fmt;
 use test_cases::Output;
 use test_cases::shown::Shown;
 
-// Stands in every byte of a room before the first call: what a call leaves is seen.
-pub const SPARE: u8 = 238;
-
 #[derive(Clone, Copy)]
 pub enum Call<'a> {
     Begin,

@@ -1,11 +1,11 @@
 // The most columns, 32,767. As many NULLs have a frame of 7 + 4 * 32,767 = 131,075 bytes, and one fewer 131,071. To build these by calls would take
 // long, as each call passes over every column: a row of 32,766 is encoded, and its numbers are the row, as 32,766 calls would give it.
-use crate::calls::{Call, SPARE};
+use crate::calls::Call;
 use crate::long::{Letters, ROOM, answer_all};
 use protocol::Message;
 use row_builder::Row;
 use test_cases::shown::Shown;
-use test_cases::{Output, filled};
+use test_cases::{Output, SPARE, filled};
 
 // A count of 32,768 has its top bit set; so many NULLs have a frame of 131,079 bytes, and the length 131,078 (00 02 00 06).
 const TOO_MANY: usize = 131079;

@@ -1,10 +1,10 @@
 // Histories in text: each line is a call, or changes between two calls what the caller keeps. It is written back with the answer and every byte of
 // the room that is lent.
-use crate::calls::{Call, SPARE};
+use crate::calls::Call;
 use row_builder::Row;
 use test_cases::case::{Head, first, read_bytes, read_head};
 use test_cases::shown::Hex;
-use test_cases::{Output, answer_lines};
+use test_cases::{Output, SPARE, answer_lines};
 
 // The longest room.
 const ROOM: usize = 64;

@@ -1,9 +1,9 @@
 // The limit of a row's length, 1,048,576, which is 00 10 00 00: its frame has 1,048,577 bytes. A row of one value of n bytes has the length
 // 4 + 2 + 4 + n: the limit is reached with n = 1,048,566 (00 0F FF F6), and with n = 1,048,562 (00 0F FF F2) and 4 bytes, NULL or an empty value.
-use crate::calls::{Call, SPARE};
+use crate::calls::Call;
 use crate::long::{Letters, ROOM, answer_all};
 use row_builder::Row;
-use test_cases::{Output, filled};
+use test_cases::{Output, SPARE, filled};
 
 // The row before the first call.
 const NONE: Row = Row {

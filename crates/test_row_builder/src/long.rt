@@ -1,11 +1,11 @@
 // Calls on a long room. Behind an answer stand the room's first 12 bytes (7, where it is shorter), the row's last 4 with 4 behind it (none, where the
 // room ends before), and how many of the room's bytes are spare.
-use crate::calls::{Call, SPARE};
+use crate::calls::Call;
 use protocol::kinds::LARGE_FRAME;
 use row_builder::Row;
 use test_cases::case::first;
 use test_cases::shown::Hex;
-use test_cases::{Output, filled};
+use test_cases::{Output, SPARE, filled};
 
 // Room for the longest frame and 15 bytes more.
 pub const ROOM: usize = LARGE_FRAME + 15;

@@ -1,4 +1,4 @@
-// An error's fields, which come as codes, lengths of strings and the strings' joined bytes.
+// An error's fields, which come as codes, lengths of strings and the strings' joined bytes, since C lends them so.
 ghost use Rattle.std.specs.Prelude.{◌≡◌};
 ghost use Rattle.protocol.specs.Encode.{error_fields_given};
 ghost use Rattle.writers.specs.Given.{is_some};

@@ -1,6 +1,7 @@
 // Writers of the fields of a frame: each writes at a place of the output and answers the place after it, or writes nothing and answers
 // the place that it was given. The output and the place go by themselves and in no struct: each contract is of the whole output, and of a struct that holds it
-// would have to say besides that it is still the one that was lent. And what comes before any write: sizes that cannot wrap, the scan for zero bytes, and the answer.
+// would have to say besides that it is still the one that was lent. A place that comes back is no Option either: the next writer goes on at it, as it is told.
+// And what comes before any write: sizes that cannot wrap, the scan for zero bytes, and the answer.
 // Inner: for crates of this library alone (docs/INNER.md).
 #![tactic(auto)]
 

@@ -1,4 +1,5 @@
-// Strings, which come as lengths and their joined bytes; and those that are a name and a value by turns.
+// Strings, which come as lengths and their joined bytes, since C lends them so; and those that are a name and a value by turns. Values (values.rt) have lengths of
+// another type, with NULL, and a test at each: one walk for both, with that test for an argument, is no plainer.
 ghost use Rattle.std.specs.Prelude.{◌≡◌};
 ghost use Rattle.protocol.specs.Encode.{texts_given};
 ghost use Rattle.writers.specs.Given as Given;
