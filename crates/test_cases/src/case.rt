@@ -15,7 +15,7 @@ fn line_end(input: &[u8], start: usize) -> usize
     }
 }
 
-// The lines of an input, without their ends. There is none behind the last end.
+// The lines of an input, without their ends. There is none behind the last end, where the library's `split` has an empty one.
 #[derive(Drop)]
 pub struct Lines<'a> {
     input: &'a [u8],

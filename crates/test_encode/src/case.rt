@@ -91,6 +91,7 @@ pub struct Case {
     // The last section of the line.
     section: Section,
     sizes: Items<usize, 6>,
+    // One at most; read as the others are.
     byte: Items<u8, 1>,
     pub one: Items<u8, 64>,
     pub two: Items<u8, 64>,

@@ -28,7 +28,7 @@ fn read_mode(text: &[u8]) -> Option<u8> {
     text.iter().try_fold(0, |_, letter| decimal(*letter))
 }
 
-// The bytes, put at the start of `room`.
+// The bytes, put at the start of `room`. Spaces stand anywhere between their digits, which no other test's input has.
 fn read_frame<'a>(text: &[u8], room: &'a mut [u8; ROOM]) -> Option<&'a [u8]> {
     let mut count: usize = 0;
     let mut high: Option<u8> = None;

@@ -27,6 +27,7 @@ impl Kept {
     }
 }
 
+// Those that the room has a place for.
 fn put_bytes(room: &mut [u8], place: usize, bytes: &[u8]) {
     for (i, byte) in bytes.iter().enumerate() {
         if let Some(to) = room.get_mut(place.wrapping_add(i)) {
