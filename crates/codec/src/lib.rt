@@ -1,7 +1,7 @@
 // The cursor over one frame, as codec.rs reads a buffer: it goes in by value and comes back advanced, or the answer is a fault.
 // The frame ends where the lent slice ends, so nothing past it can be read.
-// Its functions are inner: for crates of this library alone (docs/INNER.md). Those for a byte, a half and a word stay three, as their types do: a generic one would
-// want a trait of three impls for `from_be_bytes`, which is longer than they are.
+// Its functions are inner: for crates of this library alone (docs/INNER.md). Those for a byte, a half and a word, and for signed
+// ones, stay three, as their types do: a generic one would want a trait of three impls for `from_be_bytes` or `cast_signed`, which is longer than they are.
 #![tactic(auto)]
 
 ghost use Rattle.std.specs.Prelude.{◌+◌, ◌*◌, ◌/◌, ◌%◌, ◌^◌, ◌≤◌, ◌<◌, ◌≡◌, ltb, get_or, length};

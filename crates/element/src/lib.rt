@@ -1,4 +1,4 @@
-// Elements of lists: one item of one list of the frame at a buffer's start.
+// Elements of lists: one item of one list of the frame at a buffer's start. Rules and frame go beside each other, as in `items`.
 #![tactic(auto)]
 
 ghost use Rattle.std.specs.Prelude.{◌≡◌};

@@ -1,4 +1,4 @@
-// Decoding, for a host.
+// Decoding, for a host. A kind is told by its number: the C interface.
 ghost use Rattle.std.specs.Prelude.{◌≤◌, ◌≡◌};
 ghost use Rattle.protocol.specs.Decode.{decode_of};
 ghost use Rattle.protocol.specs.Rules.{rules_of};

@@ -60,7 +60,7 @@ fn bare(kind: usize, out: &mut [u8]) -> Result<usize, Refused>
     }
 }
 
-// The kinds without a list.
+// The kinds without a list; here and below the parameters are the exported call's own.
 fn plain(
     kind: usize,
     byte: u8,

@@ -101,6 +101,7 @@ impl Row {
         requires { n < 4 + 2 ^ 63 }
         ensures { built result ≡ B.grow_of self n room.now }
     {
+        // Joined by `&`, as in `encode`; `verdict` is told it again, since the definition tells it (`grow_of`).
         let able = self.stands(room) & (self.columns < MOST_SIGNED);
         if !able {
             return Err(Refusal::NotRepresentable.at(0));

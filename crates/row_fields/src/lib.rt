@@ -59,7 +59,7 @@ fn put_field(f: FieldDescription, run: &[u8], out: &mut [u8], at: usize) -> usiz
     put_pairs(out, at, table, column, f.type_id, size, modifier, format)
 }
 
-// One field's turn in a pass: it is measured, and written where the pass writes.
+// One field's turn in a pass: it is measured, and written where the pass writes. Tests are joined by `&`, as in `encode`.
 fn step(c: Pass, f: FieldDescription, run: &[u8], out: &mut [u8]) -> Pass
     ensures { (result ≡ P.step_pass c f run.now) × (out.new ≡ P.step_out c f run.now out.old) }
 {

@@ -1,4 +1,4 @@
-// One frame cut at each byte, and with one byte more, its length word mended each time.
+// One frame cut at each byte, and with one byte more, its length word mended each time. What is written is what `stdout` has.
 ghost use Rattle.std.specs.Prelude.{◌<◌, ◌≤◌};
 
 use crate::case::ROOM;

@@ -1,4 +1,4 @@
-// What element calls answer, in text. A case names its list by one digit.
+// What element calls answer, in text. A case names its list by one digit. As `stdout` has it, which no other test does.
 use crate::case::ROOM;
 use protocol::Element;
 use protocol::data::FieldDescription;

@@ -1,4 +1,5 @@
-// What decode answers, in text: the kind's name, its fields, and the bytes consumed; need-more; or the refusal.
+// What decode answers, in text: the kind's name, its fields, and the bytes consumed; need-more; or the refusal. So `stdout` has it: each test
+// program writes what its own cases ask.
 use protocol::extendedquery::{Bind, Parse};
 use protocol::refusal::Unread;
 use protocol::response::NotificationResponse;

@@ -1,4 +1,4 @@
-// What an encoder answers, in text, with every byte of the output: of a long one the number and two sums.
+// What an encoder answers, in text, with every byte of the output: of a long one the number and two sums. So `stdout` has it, which no other test does.
 use protocol::refusal::Refused;
 use std::fmt;
 use test_cases::Output;

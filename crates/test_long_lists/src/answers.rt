@@ -1,4 +1,5 @@
-// What the library answers, in text. Of a message its lists are written, each as its start and its count.
+// What the library answers, in text. Of a message its lists are written, each as its start and its count: no other test asks
+// for these alone.
 use protocol::{Element, Message};
 use test_cases::Output;
 use test_cases::shown::Shown;

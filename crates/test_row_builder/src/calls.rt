@@ -1,4 +1,4 @@
-// Each call, with its answer in text.
+// Each call, with its answer in text. Row and room go beside each other, as the calls have them.
 use row_builder::Row;
 use std::fmt;
 use test_cases::Output;

@@ -23,7 +23,7 @@ use protocol::kinds::{LARGE_FRAME, MOST_UNSIGNED};
 use protocol::refusal::{Refusal, Refused};
 use scan::zero_from;
 
-// ---- the bits of a signed number, in two's complement
+// ---- the bits of a signed number, in two's complement: three, since the library's `cast_unsigned` is a method of each type
 
 pub fn bits8(byte: i8) -> u8
     ensures { result ≡ bits_of 1 byte }
@@ -140,6 +140,7 @@ fn store_short(out: &mut [u8], at: usize, s: &[u8]) -> usize
     }
 }
 
+// Fewer than 16 go by blocks: the library's copy of them is a loop over single bytes, or a call.
 fn store_bytes(out: &mut [u8], at: usize, s: &[u8]) -> usize
     requires { at + length s.now ≤ length out.old }
     ensures { Wrote out.old at s.now (length s.now) out.new result }
