@@ -1,6 +1,7 @@
 // An error of 40,000 fields, written, decoded and read. Field i has the code 1 + i % 255 and a string of one byte, 1 + i % 251.
 // A field takes three bytes: a code, a byte, a zero byte. So the frame has 5 + 40,000 * 3 + 1 = 120,006 bytes and the length word 120,005,
 // which is 00 01 D4 C5; field i begins at 5 + 3 * i and its string at 6 + 3 * i, and the zero code that ends the fields stands at 120,005.
+// What is written of each is what `stdout` has, which no other test does.
 #![tactic(auto)]
 
 mod fields;
