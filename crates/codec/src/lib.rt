@@ -202,16 +202,20 @@ impl Cursor {
         self.fixed(reading, frame, 2)
     }
 
-    // Past a value. Most are there and whole, which one comparison tells: a negative length is never below `ends`.
+    // Past a value. Most are there and whole, which one comparison tells: a negative length is never below `ends`. NULL is told next.
     fn pass_value(self, rules: Rules, frame: &[u8], ends: usize) -> Result<Cursor, Refused>
         requires { WordsEnd frame.now ends }
         ensures { passed_read result ≡ pass_items rules nullable 1 frame.now self.at }
     {
         let at = self.at;
         if at < ends {
-            let len = word_at(frame, at) as usize;
+            let word = word_at(frame, at);
+            let len = word as usize;
             if len < ends - at {
                 return Ok(Cursor { at: at + 4 + len });
+            }
+            if word == NULL {
+                return Ok(Cursor { at: at + 4 });
             }
         }
         let (_, next) = self.value(frame)?;
@@ -230,7 +234,8 @@ impl Cursor {
         Ok(c)
     }
 
-    // Every value is checked.
+    // Every value is checked. It is put into no decoder: in one that keeps other lists too, the walk's place would go through memory at each turn.
+    #[inline(never)]
     pub fn values(
         self,
         rules: Rules,

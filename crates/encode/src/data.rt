@@ -30,7 +30,7 @@ pub fn row_description(
     };
     let measured = each(fields, run, out, measuring);
     let n = begin(measured, fields.len(), out)?;
-    each(fields, run, out, writing_pass(Ok(n)));
+    each(fields, run, out, writing_pass::<Refused>(Ok(n)));
     Ok(n)
 }
 

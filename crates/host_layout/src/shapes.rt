@@ -16,12 +16,18 @@ pub fn need_more() -> [usize; 16]
     [1, 0, 0, 0, 0, 0, 0, 0, 0, 0, 0, 0, 0, 0, 0, 0]
 }
 
-pub fn refused(refused: Refused) -> [usize; 16]
-    ensures { result ≡ refused_out 16 (number_of refused.refusal) refused.place }
+pub fn refused(number: u8, place: usize) -> [usize; 16]
+    ensures { result ≡ refused_out 16 number place }
 {
-    let number = refused.refusal.number() as usize;
-    let place = refused.place;
+    let number = number as usize;
     [2, number, place, 0, 0, 0, 0, 0, 0, 0, 0, 0, 0, 0, 0, 0]
+}
+
+// A refusal with its place.
+pub fn refusal(r: Refused) -> [usize; 16]
+    ensures { result ≡ refused_out 16 (number_of r.refusal) r.place }
+{
+    refused(r.refusal.number(), r.place)
 }
 
 // Why nothing was read.
@@ -30,7 +36,7 @@ pub fn unread(unread: Unread) -> [usize; 16]
 {
     match unread {
         Unread::NeedMore => need_more(),
-        Unread::Refused(r) => refused(r),
+        Unread::Refused(r) => refusal(r),
     }
 }
 

@@ -92,7 +92,7 @@ pub extern "C" fn tusweram_field(frame: &[u8], at: usize, out: &mut [usize; 16])
 {
     *out = match field_description(rules_of(1), frame, Cursor { at }) {
         Ok((d, next)) => field(next.at, d),
-        Err(refused) => shapes::refused(refused),
+        Err(refused) => shapes::refusal(refused),
     };
 }
 
@@ -103,7 +103,7 @@ pub extern "C" fn tusweram_error_field(frame: &[u8], at: usize, out: &mut [usize
 {
     *out = match error_field(rules_of(1), frame, Cursor { at }) {
         Ok(((code, text), next)) => shapes::target(6, next.at, code, text),
-        Err(refused) => shapes::refused(refused),
+        Err(refused) => shapes::refusal(refused),
     };
 }
 
@@ -114,6 +114,6 @@ pub extern "C" fn tusweram_pair(frame: &[u8], at: usize, out: &mut [usize; 16])
 {
     *out = match pair(rules_of(5), frame, Cursor { at }) {
         Ok(((name, value), next)) => shapes::two_spans(7, next.at, name, value),
-        Err(refused) => shapes::refused(refused),
+        Err(refused) => shapes::refusal(refused),
     };
 }

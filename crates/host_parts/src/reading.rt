@@ -13,7 +13,7 @@ pub extern "C" fn tusweram_value(frame: &[u8], at: usize, out: &mut [usize; 16])
     *out = match reader::value_at(frame, at) {
         Ok((Some(part), next)) => shapes::one_span(4, next.at, part),
         Ok((None, next)) => shapes::none(3, next.at),
-        Err(refused) => shapes::refused(refused),
+        Err(refused) => shapes::refusal(refused),
     };
 }
 

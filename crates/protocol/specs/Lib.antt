@@ -19,3 +19,4 @@ pub mod Stream
 pub mod Told
 pub mod Views
 pub mod WellFormed
+pub mod Words

@@ -1,7 +1,8 @@
 // Where a buffer's bytes come from (docs/FORMAT.md 1), by the number that a host names. Public calls and rules keep the number, as the C interface has it; what
 // chooses by a mode makes a Mode of it.
-ghost use Rattle.std.specs.Prelude.{◌≡◌, ◌<◌, MatchResult};
+ghost use Rattle.std.specs.Prelude.{◌≡◌, ◌<◌, MatchResult, Some};
 ghost use Rattle.protocol.specs.Told.{mode_number};
+ghost use Rattle.protocol.specs.Words.{unknown_mode_words};
 
 use std::error::Error;
 use std::fmt;
@@ -39,6 +40,8 @@ impl TryFrom<u8> for Mode {
 }
 
 impl fmt::Display for UnknownMode {
+    ghost output = { λ x. Some (unknown_mode_words x) };
+
     fn fmt<W: fmt::Write>(&self, f: &mut fmt::Formatter<W>) -> fmt::Result {
         write!(f, "no mode has the number {}", self.0)
     }

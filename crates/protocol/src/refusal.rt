@@ -1,6 +1,7 @@
 // Why a message is refused, with the refusals' numbers (docs/FORMAT.md 6), and what stands in an answer's place where nothing was read.
-ghost use Rattle.std.specs.Prelude.{◌≡◌};
+ghost use Rattle.std.specs.Prelude.{◌≡◌, Some};
 ghost use Rattle.protocol.specs.Told.{number_of};
+ghost use Rattle.protocol.specs.Words.{refusal_words, refused_words, unread_words};
 ghost use Rattle.protocol.specs.declared.refusal.Unread.TheVariants as U;
 
 use std::error::Error;
@@ -51,6 +52,8 @@ impl Refusal {
 }
 
 impl fmt::Display for Refusal {
+    ghost output = { λ x. Some (refusal_words x) };
+
     fn fmt<W: fmt::Write>(&self, f: &mut fmt::Formatter<W>) -> fmt::Result {
         f.write_str(match self {
             Refusal::ModeUnknown => "the mode is unknown",
@@ -76,6 +79,8 @@ pub struct Refused {
 }
 
 impl fmt::Display for Refused {
+    ghost output = { λ x. Some (refused_words x) };
+
     fn fmt<W: fmt::Write>(&self, f: &mut fmt::Formatter<W>) -> fmt::Result {
         write!(f, "{}, at {}", self.refusal, self.place)
     }
@@ -99,6 +104,8 @@ impl From<Refused> for Unread {
 }
 
 impl fmt::Display for Unread {
+    ghost output = { λ x. Some (unread_words x) };
+
     fn fmt<W: fmt::Write>(&self, f: &mut fmt::Formatter<W>) -> fmt::Result {
         match self {
             Unread::NeedMore => f.write_str("the frame's end has not arrived"),

@@ -1,5 +1,5 @@
 -- What one pass over a row's fields does. The same pass is made twice: first it measures, then it writes.
-use Rattle.std.specs.Prelude.{ℕ, ◌+◌, ◌-◌, min, Bool, true, false, cond, ◌&&◌, List, [], ◌∷◌, ◌++◌, leb, length, take, drop}
+use Rattle.std.specs.Prelude.{ℕ, Result, Ok, Err, ◌+◌, ◌-◌, min, Bool, true, false, cond, ◌&&◌, List, [], ◌∷◌, ◌++◌, leb, length, take, drop}
 use Rattle.protocol.specs.Encoded as N
 use Rattle.protocol.specs.Encoded.{Encoded}
 use Rattle.protocol.specs.declared.data.FieldDescription.{FieldDescription}
@@ -60,6 +60,11 @@ answered c count room = verdict_of (leb count (most signed_count) && c.ok) large
 unfoldable pub begun : Encoded → ℕ → List ℕ → List ℕ
 begun (N.Done n) count out = write (write out 0 (header typed row_description.tag (n - 5))) 5 (be 2 count)
 begun (N.Refused number place) count out = out
+
+-- that there is an answer, or a refusal, whatever it is
+abbrev pub told : {E : Type 0} → Result ℕ E → Encoded
+told (Ok n) = N.Done n
+told (Err e) = N.Refused 0 0
 
 -- the pass that writes, at its start
 unfoldable pub writing_pass : Encoded → Pass

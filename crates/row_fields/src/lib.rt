@@ -45,9 +45,9 @@ fn name_able(f: FieldDescription, run: &[u8], writing: bool) -> bool
 }
 
 // One field: its name, a zero byte and the numbers, the signed ones as their bits.
-fn put_field(f: FieldDescription, run: &[u8], out: &mut [u8], at: usize) -> usize
-    requires { (f.name.start + f.name.len ≤ length run.now) × (at + (f.name.len + 19) ≤ length out.old) }
-    ensures { Wrote out.old at (item_bytes row_field (row_field_given f run.now)) (f.name.len + 19) out.new result }
+fn put_field(f: &FieldDescription, run: &[u8], out: &mut [u8], at: usize) -> usize
+    requires { (f.now.name.start + f.now.name.len ≤ length run.now) × (at + (f.now.name.len + 19) ≤ length out.old) }
+    ensures { Wrote out.old at (item_bytes row_field (row_field_given f.now run.now)) (f.now.name.len + 19) out.new result }
 {
     let start = f.name.start;
     let at = put_text(out, at, &run[start..start + f.name.len]);
@@ -59,12 +59,13 @@ fn put_field(f: FieldDescription, run: &[u8], out: &mut [u8], at: usize) -> usiz
     put_pairs(out, at, table, column, f.type_id, size, modifier, format)
 }
 
-// One field's turn in a pass: it is measured, and written where the pass writes. Tests are joined by `&`, as in `encode`.
-fn step(c: Pass, f: FieldDescription, run: &[u8], out: &mut [u8]) -> Pass
-    ensures { (result ≡ P.step_pass c f run.now) × (out.new ≡ P.step_out c f run.now out.old) }
+// One field's turn in a pass: it is measured, and written where the pass writes. Tests are joined by `&`, as in `encode`. The field is lent, so that the pass
+// that measures reads its name alone.
+fn step(c: Pass, f: &FieldDescription, run: &[u8], out: &mut [u8]) -> Pass
+    ensures { (result ≡ P.step_pass c f.now run.now) × (out.new ≡ P.step_out c f.now run.now out.old) }
 {
     let at = plus(c.at, plus(f.name.len, 19));
-    let able = name_able(f, run, c.writing);
+    let able = name_able(*f, run, c.writing);
     if c.writing & able & (at <= out.len()) {
         put_field(f, run, out, c.at);
     }
@@ -79,7 +80,7 @@ pub fn each(fields: &[FieldDescription], run: &[u8], out: &mut [u8], c: Pass) ->
 {
     let mut c = c;
     for f in fields {
-        c = step(c, *f, run, out);
+        c = step(c, f, run, out);
     }
     c
 }
@@ -96,9 +97,9 @@ pub fn begin(measured: Pass, count: usize, out: &mut [u8]) -> Result<usize, Refu
     Ok(n)
 }
 
-// The second pass at its start: it writes where the answer is a number of bytes.
-pub fn writing_pass(r: Result<usize, Refused>) -> Pass
-    ensures { result ≡ P.writing_pass (encoded r) }
+// The second pass at its start: it writes where the answer is a number of bytes. Why there is none it does not ask.
+pub fn writing_pass<E: Copy>(r: Result<usize, E>) -> Pass
+    ensures { result ≡ P.writing_pass (P.told r) }
 {
     Pass {
         at: 7,

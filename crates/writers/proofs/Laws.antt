@@ -59,6 +59,13 @@ write-sets d p (x ∷ xs) = rw add-one (write-sets (set d p x) (suc p) xs)
 pub front : (d xs : List ℕ) → length xs ≤ length d → write d 0 xs ≡ xs ++ drop (length xs) d
 front d xs h = write-sets d 0 xs ∙ sets-eq xs d 0 (omega arith) ∙ simp zero-add
 
+-- four bytes that are stored one by one
+pub singly : (d : List ℕ) (p w x y z : ℕ) → Wrote d p (w ∷ x ∷ y ∷ z ∷ []) 4 (set (set (set (set d p w) (p + 1) x) (p + 2) y) (p + 3) z) (p + 4)
+singly d p w x y z =
+    let two : p + 1 + 1 ≡ p + 2 = omega arith in
+    let three : p + 2 + 1 ≡ p + 3 = omega arith in
+    record { bytes = rw (two, three) refl; size = refl; place = refl }
+
 -- a part of the output that bytes were copied over
 pub copied : (d : List ℕ) (p : ℕ) (xs : List ℕ) {ys : List ℕ} → p + length xs ≤ length d → ys ≡ xs → Wrote d p xs (length xs) (put_mid p (p + length xs - p) d ys) (p + length xs)
 copied d p xs h e =
@@ -112,14 +119,30 @@ ends d s at i j low h =
     let k : write m (at + j) (drop j s) ≡ write d at s = rw (e, write_append d at (take j s) (drop j s), take-append-drop j s) refl in
     rw (← g) (over m (at + j) (drop j s) (i - j) ∙ k)
 
--- the first n bytes and the last n, of which each is stored by one or both
+-- the first i bytes, and then n more
+pub further : {d mid out block : List ℕ} {at i q n next : ℕ} (s : List ℕ) → Wrote d at (take i s) i mid q → block ≡ take n (drop i s) → Wrote mid q block n out next
+    → i + n ≤ length s → Wrote d at (take (i + n) s) (i + n) out next
+further {d} {mid} {out} {block} {at} {i} {q} {n} {next} s v e w h =
+    let f : q ≡ at + i = v.place in
+    let b : out ≡ write (write d at (take i s)) (at + i) (take n (drop i s)) = rw (v.bytes, f, e) at w.bytes in
+    record {
+      bytes = b ∙ parted d s at i n (omega arith);
+      size = length-take-le (i + n) s h;
+      place = omega (arith, w.place, v.place);
+    }
+
+-- the first i bytes and the last n, of which each is stored by one or both
+pub overlaid : {d mid out last : List ℕ} {at i q n next : ℕ} (s : List ℕ) → Wrote d at (take i s) i mid q → last ≡ drop (length s - n) s
+    → Wrote mid (at + (length s - n)) last n out next → n ≤ length s → length s - n ≤ i → i ≤ length s → Wrote d at s (length s) out next
+overlaid {d} {mid} {out} {last} {at} {i} {q} {n} s v f w low meets high =
+    let b : out ≡ write mid (at + (length s - n)) (drop (length s - n) s) = rw f at w.bytes in
+    let g : write mid (at + (length s - n)) (drop (length s - n) s) ≡ write d at s = rw v.bytes (ends d s at i (length s - n) meets high) in
+    record { bytes = b ∙ g; size = refl; place = omega (arith, w.place) }
+
+-- the first n bytes and the last n
 pub ended : {d mid out first last : List ℕ} {at q n next : ℕ} (s : List ℕ) → first ≡ take n s → last ≡ drop (length s - n) s → Wrote d at first n mid q
     → Wrote mid (at + (length s - n)) last n out next → n ≤ length s → length s ≤ n + n → Wrote d at s (length s) out next
-ended {d} {mid} {out} {first} {last} {at} {q} {n} s e f v w low high =
-    let b : out ≡ write mid (at + (length s - n)) (drop (length s - n) s) = rw f at w.bytes in
-    let a : mid ≡ write d at (take n s) = rw e at v.bytes in
-    let g : write mid (at + (length s - n)) (drop (length s - n) s) ≡ write d at s = rw a (ends d s at n (length s - n) (omega arith) low) in
-    record { bytes = b ∙ g; size = refl; place = omega (arith, w.place) }
+ended s e f v w low high = overlaid s (rw e at v) f w low (omega arith) low
 
 -- ---- the same bytes in other words
 

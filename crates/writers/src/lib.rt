@@ -140,7 +140,23 @@ fn store_short(out: &mut [u8], at: usize, s: &[u8]) -> usize
     }
 }
 
-// Fewer than 16 go by blocks: the library's copy of them is a loop over single bytes, or a call.
+// Blocks of 64, and the last 64, which may meet the one before it.
+fn store_blocks(out: &mut [u8], at: usize, s: &[u8]) -> usize
+    requires { (at + length s.now ≤ length out.old) × (64 ≤ length s.now) }
+    ensures { Wrote out.old at s.now (length s.now) out.new result }
+{
+    let last = *s.last_chunk::<64>().unwrap();
+    let mut p = at;
+    let mut rest = s;
+    while 64 < rest.len() {
+        let (block, after) = rest.split_first_chunk::<64>().unwrap();
+        p = store_block(out, p, *block);
+        rest = after;
+    }
+    store_block(out, at + (s.len() - 64), last)
+}
+
+// By blocks, and not by the library's copy: of a length that the compiler does not know that is a call of the C library, and the archives for C need none.
 fn store_bytes(out: &mut [u8], at: usize, s: &[u8]) -> usize
     requires { at + length s.now ≤ length out.old }
     ensures { Wrote out.old at s.now (length s.now) out.new result }
@@ -148,9 +164,13 @@ fn store_bytes(out: &mut [u8], at: usize, s: &[u8]) -> usize
     if s.len() < 16 {
         return store_short(out, at, s);
     }
-    let end = at + s.len();
-    out[at..end].copy_from_slice(s);
-    end
+    if 64 <= s.len() {
+        return store_blocks(out, at, s);
+    }
+    if 32 <= s.len() {
+        return store_ends::<32>(out, at, s);
+    }
+    store_ends::<16>(out, at, s)
 }
 
 fn store_half(out: &mut [u8], at: usize, half: u16) -> usize
@@ -192,8 +212,14 @@ impl Number for u32 {
 
     ghost narrow = { lit≤ tt };
 
+    // By single bytes, of which the compiler makes a swap and a store: of `store_word` in a loop it makes vectors, which take longer.
     fn store(self, out: &mut [u8], at: usize) -> usize {
-        store_word(out, at, self)
+        let [a, b, c, d] = self.to_be_bytes();
+        out[at] = a;
+        out[at + 1] = b;
+        out[at + 2] = c;
+        out[at + 3] = d;
+        at + 4
     }
 }
 

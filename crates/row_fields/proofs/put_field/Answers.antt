@@ -13,7 +13,7 @@ use Rattle.row_fields.proofs.put_field.Goals as goal
 
 pub returns : goal.returns
 returns c = let a = c.args in
-    let f = a.f in
+    let f = a.f.now in
     let part = take f.name.len (drop f.name.start a.run.now) in
     let long : length part ≡ f.name.len = part_length a.run.now f.name.start f.name.len (omega arith) in
     let e : f.name.start + f.name.len - f.name.start ≡ f.name.len = omega arith in

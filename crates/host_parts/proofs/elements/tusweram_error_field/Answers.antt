@@ -9,4 +9,4 @@ returns-in-Ok c = c.target.ensures ∙ ap error_field_out c.in-Ok.ensures
 
 pub returns-in-Err : goal.returns-in-Err
 unfolding error_field_out
-returns-in-Err c = c.refused.ensures ∙ ap error_field_out c.in-Err.ensures
+returns-in-Err c = c.refusal.ensures ∙ ap error_field_out c.in-Err.ensures

@@ -9,4 +9,4 @@ returns-in-Ok c = c.field.ensures ∙ ap field_out c.in-Ok.ensures
 
 pub returns-in-Err : goal.returns-in-Err
 unfolding field_out
-returns-in-Err c = c.refused.ensures ∙ ap field_out c.in-Err.ensures
+returns-in-Err c = c.refusal.ensures ∙ ap field_out c.in-Err.ensures

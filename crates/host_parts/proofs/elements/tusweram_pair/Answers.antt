@@ -9,4 +9,4 @@ returns-in-Ok c = c.two_spans.ensures ∙ ap pair_out c.in-Ok.ensures
 
 pub returns-in-Err : goal.returns-in-Err
 unfolding pair_out
-returns-in-Err c = c.refused.ensures ∙ ap pair_out c.in-Err.ensures
+returns-in-Err c = c.refusal.ensures ∙ ap pair_out c.in-Err.ensures

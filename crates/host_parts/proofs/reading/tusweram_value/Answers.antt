@@ -17,4 +17,4 @@ returns-in-Ok-None-default c =
 
 pub returns-in-Err : goal.returns-in-Err
 unfolding value_out
-returns-in-Err c = c.refused.ensures ∙ ap value_out c.in-Err.ensures
+returns-in-Err c = c.refusal.ensures ∙ ap value_out c.in-Err.ensures
