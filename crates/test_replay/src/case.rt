@@ -1,10 +1,10 @@
-// A case in text: "MODE HH HH .. = N N .." and, where the library is not to refuse, "| N N N". HH is a byte in hexadecimal digits. The first N are the
-// numbers that tusweram_decode is to give, without the zeros at their end; those after the bar are the Rust's answer: its status, and the bytes consumed
-// and the kind where it took a message. Whatever has another form is malformed.
+// A case, read letter by letter: "MODE HH HH .. = N N .." and, where the library is not to refuse, "| N N N". HH is a byte in hexadecimal digits. The
+// first N are the numbers that tusweram_decode is to give, without the zeros at their end; those after the bar are the Rust's answer: its status, and
+// the bytes consumed and the kind where it took a message. Whatever has another form is malformed.
 use test_cases::case::{digit, first};
 
 // Room for a frame.
-pub const ROOM: usize = 128;
+const ROOM: usize = 128;
 
 // How many numbers an answer has.
 pub const ROW: usize = 16;
@@ -12,37 +12,38 @@ pub const ROW: usize = 16;
 // An answer and the Rust's, which begins at ROW.
 const BOTH: usize = 19;
 
+// What a line says.
 #[derive(Clone, Copy)]
 pub struct Case<'a> {
     pub mode: u8,
     pub frame: &'a [u8],
-    pub numbers: Numbers,
+    pub numbers: &'a Numbers,
 }
 
 fn decimal(letter: u8) -> Option<u8> {
     digit(letter).filter(|digit| *digit <= 9)
 }
 
-// The mode is a number: of more digits than one, the last.
-fn read_mode(text: &[u8]) -> Option<u8> {
-    text.iter().try_fold(0, |_, letter| decimal(*letter))
+// The bytes that are read so far, and the first digit of the next one. Spaces stand anywhere between the digits, which no other test's input has.
+#[derive(Drop)]
+struct Frame {
+    bytes: [u8; ROOM],
+    count: usize,
+    high: Option<u8>,
 }
 
-// The bytes, put at the start of `room`. Spaces stand anywhere between their digits, which no other test's input has.
-fn read_frame<'a>(text: &[u8], room: &'a mut [u8; ROOM]) -> Option<&'a [u8]> {
-    let mut count: usize = 0;
-    let mut high: Option<u8> = None;
-    for letter in text.iter().filter(|letter| **letter != b' ') {
-        let value = digit(*letter)?;
-        match high.take() {
-            None => high = Some(value),
+impl Frame {
+    fn step(&mut self, letter: u8) -> Option<()> {
+        let value = digit(letter)?;
+        match self.high.take() {
+            None => self.high = Some(value),
             Some(high) => {
-                *room.get_mut(count)? = (high << 4) | value;
-                count += 1;
+                *self.bytes.get_mut(self.count)? = (high << 4) | value;
+                self.count += 1;
             }
         }
+        Some(())
     }
-    Some(first(room, count))
 }
 
 // The numbers that are read so far, and the digits of the next one.
@@ -54,19 +55,6 @@ pub struct Numbers {
 }
 
 impl Numbers {
-    fn read(text: &[u8]) -> Option<Numbers> {
-        let mut numbers = Numbers {
-            all: [0; BOTH],
-            count: 0,
-            next: None,
-        };
-        for letter in text {
-            numbers.step(*letter)?;
-        }
-        numbers.end()?;
-        Some(numbers)
-    }
-
     fn step(&mut self, letter: u8) -> Option<()> {
         match letter {
             b' ' => self.end(),
@@ -118,16 +106,73 @@ impl Numbers {
     }
 }
 
-// None where the line is malformed.
-pub fn read_case<'a>(line: &[u8], room: &'a mut [u8; ROOM]) -> Option<Case<'a>> {
-    let mut parts = line.splitn(2, |letter| *letter == b' ');
-    let mode = read_mode(parts.next()?)?;
-    let mut parts = parts.next()?.splitn(2, |letter| *letter == b'=');
-    let frame = read_frame(parts.next()?, room)?;
-    let numbers = Numbers::read(parts.next()?)?;
-    Some(Case {
-        mode,
-        frame,
-        numbers,
-    })
+// The part of a line that is being read.
+#[derive(Clone, Copy)]
+enum Part {
+    Mode,
+    Bytes,
+    Numbers,
+    Malformed,
+}
+
+// What is read of a line so far.
+#[derive(Drop)]
+pub struct Line {
+    part: Part,
+    mode: u8,
+    frame: Frame,
+    numbers: Numbers,
+}
+
+impl Line {
+    pub fn new() -> Line {
+        Line {
+            part: Part::Mode,
+            mode: 0,
+            frame: Frame {
+                bytes: [0; ROOM],
+                count: 0,
+                high: None,
+            },
+            numbers: Numbers {
+                all: [0; BOTH],
+                count: 0,
+                next: None,
+            },
+        }
+    }
+
+    // The next letter; None where it cannot stand there. The mode is a number: of more digits than one, the last.
+    fn next(&mut self, letter: u8) -> Option<()> {
+        match (self.part, letter) {
+            (Part::Mode, b' ') => self.part = Part::Bytes,
+            (Part::Mode, _) => self.mode = decimal(letter)?,
+            (Part::Bytes, b' ') => {}
+            (Part::Bytes, b'=') => self.part = Part::Numbers,
+            (Part::Bytes, _) => self.frame.step(letter)?,
+            (Part::Numbers, _) => self.numbers.step(letter)?,
+            (Part::Malformed, _) => {}
+        }
+        Some(())
+    }
+
+    // A line with a letter that cannot stand there stays malformed.
+    pub fn step(&mut self, letter: u8) {
+        if self.next(letter).is_none() {
+            self.part = Part::Malformed;
+        }
+    }
+
+    // What the line says, at its end; None where it is malformed.
+    pub fn case(&mut self) -> Option<Case<'_>> {
+        let Part::Numbers = self.part else {
+            return None;
+        };
+        self.numbers.end()?;
+        Some(Case {
+            mode: self.mode,
+            frame: first(&self.frame.bytes, self.frame.count),
+            numbers: &self.numbers,
+        })
+    }
 }

@@ -4,13 +4,15 @@
 
 mod case;
 
-use case::{ROOM, ROW, read_case};
+use case::{Line, ROW};
 use std::io;
-use test_cases::case::Lines;
-use test_cases::{Output, filled};
+use test_cases::Output;
 
-// More letters than the list has.
-const MOST: usize = 2097152;
+// The list is read in pieces of so many letters, so that it need not stand in memory whole.
+const PIECE: usize = 65536;
+
+// More pieces than the list has.
+const PIECES: usize = 32;
 
 // Where an answer's status, bytes consumed and kind stand, and the status of a refusal.
 const STATUS: usize = 0;
@@ -23,9 +25,8 @@ const REFUSED: usize = 2;
 
 // Whether the library gives the case's numbers; and whether the Rust waits where the library does, and takes the same kind and bytes where the library
 // takes a frame. The list has its answer exactly where the library does not refuse.
-fn holds(line: &[u8]) -> bool {
-    let mut room = [0u8; ROOM];
-    let Some(case) = read_case(line, &mut room) else {
+fn holds(line: &mut Line) -> bool {
+    let Some(case) = line.case() else {
         return false;
     };
     let mut got = [0usize; ROW];
@@ -38,33 +39,59 @@ fn holds(line: &[u8]) -> bool {
     agrees && case.numbers.answer() == got.as_slice()
 }
 
-// The same of a line, which is written where it is wrong.
-fn is_wrong(to: &mut Output, number: usize, line: &[u8]) -> bool {
-    let wrong = !holds(line);
-    if wrong {
-        writeln!(to, "line {number} is wrong");
-    }
-    wrong
+// How far the list is read: the line that is being read, how many came before it, and how many of them are wrong.
+#[derive(Drop)]
+struct Tally {
+    line: Line,
+    lines: usize,
+    wrong: usize,
 }
 
-// The lines that have an end: none is cut where the room ends.
-fn whole_lines(input: &[u8]) -> Lines<'_> {
-    match input.iter().rposition(|letter| *letter == b'\n') {
-        Some(end) => Lines::of(&input[..=end]),
-        None => Lines::of(&[]),
+impl Tally {
+    fn new() -> Tally {
+        Tally {
+            line: Line::new(),
+            lines: 0,
+            wrong: 0,
+        }
     }
+
+    // The end of a line, which is reported where it is wrong. There are no more lines than letters, so no sum wraps.
+    fn end_line(&mut self, to: &mut Output) {
+        self.lines = self.lines.wrapping_add(1);
+        if !holds(&mut self.line) {
+            writeln!(to, "line {} is wrong", self.lines);
+            self.wrong = self.wrong.wrapping_add(1);
+        }
+        self.line = Line::new();
+    }
+
+    // A line may end in a later piece than it begins in.
+    fn read(&mut self, to: &mut Output, piece: &[u8]) {
+        for letter in piece {
+            match *letter {
+                b'\n' => self.end_line(to),
+                letter => self.line.step(letter),
+            }
+        }
+    }
+}
+
+// A line that has no end is not counted.
+fn replay(to: &mut Output, rt: HostRuntime) -> io::Result<()> {
+    let mut tally = Tally::new();
+    let mut room = [0u8; PIECE];
+    for _ in 0..PIECES {
+        let piece = test_cases::read_input(rt, &mut room)?;
+        tally.read(to, piece);
+    }
+    writeln!(to, "{} cases, {} wrong", tally.lines, tally.wrong);
+    Ok(())
 }
 
 fn main(rt: HostRuntime) -> io::Result<()> {
-    let mut room: [u8; MOST] = filled(0);
-    let input = test_cases::read_input(rt, &mut room)?;
     let mut to = Output::new(rt)?;
-    let lines = whole_lines(input).count();
-    // There are fewer lines than letters.
-    let wrong = whole_lines(input)
-        .zip(1..=MOST)
-        .filter(|(line, number)| is_wrong(&mut to, *number, line))
-        .count();
-    writeln!(to, "{lines} cases, {wrong} wrong");
-    to.finish()
+    let result = replay(&mut to, rt);
+    to.finish()?;
+    result
 }

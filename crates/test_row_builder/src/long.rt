@@ -25,6 +25,20 @@ impl Letters {
     }
 }
 
+// How many of at most 255 bytes are spare.
+fn spare_in_part(part: &[u8]) -> u8 {
+    part.iter().fold(0, |spare: u8, byte| {
+        spare.wrapping_add((*byte == SPARE) as u8)
+    })
+}
+
+// The same of all. A part's count is a byte, since the compiler then compares many bytes at once.
+fn spare_in(room: &[u8]) -> usize {
+    room.chunks(255).fold(0, |spare: usize, part| {
+        spare.wrapping_add(spare_in_part(part) as usize)
+    })
+}
+
 // `most` bytes from a place on; where the room ends before, `least`.
 fn part(room: &[u8], start: usize, most: usize, least: usize) -> Hex<'_> {
     let part = decode::part(room, start, most);
@@ -40,14 +54,13 @@ fn answer(to: &mut Output, call: Call<'_>, row: Row, room: &mut [u8]) -> Row {
     write!(to, "{call}: ");
     let next = call.answer(to, row, room);
     let end = next.size.wrapping_sub(4);
-    let spare = room.iter().filter(|byte| **byte == SPARE).count();
     write!(
         to,
         "; first{}; end{}",
         part(room, 0, 12, 7),
         part(room, end, 8, 4)
     );
-    writeln!(to, "; spare {spare}");
+    writeln!(to, "; spare {}", spare_in(room));
     next
 }
 
