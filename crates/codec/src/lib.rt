@@ -234,8 +234,7 @@ impl Cursor {
         Ok(c)
     }
 
-    // Every value is checked. It is put into no decoder: in one that keeps other lists too, the walk's place would go through memory at each turn.
-    #[inline(never)]
+    // Every value is checked.
     pub fn values(
         self,
         rules: Rules,

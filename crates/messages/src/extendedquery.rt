@@ -95,6 +95,8 @@ pub fn close_complete(rules: Rules, buf: &[u8]) -> Result<(Message, usize), Unre
     fieldless(rules, buf, kinds::CLOSE_COMPLETE, Message::CloseComplete)
 }
 
+// It is called, and put into no caller: beside what that one keeps, the walk's place would go through memory at each value.
+#[inline(never)]
 pub fn bind(rules: Rules, buf: &[u8]) -> Result<(Message, usize), Unread>
     ensures { decoded result ≡ decode_as rules K.typed K.bind buf.now }
 {
