@@ -1,5 +1,5 @@
--- A list of a message as the code has it.
-use Rattle.std.specs.Prelude.{ℕ, zero, suc}
+-- A list of a message as the code has it, and what is known of where its items stand.
+use Rattle.std.specs.Prelude.{ℕ, zero, suc, ◌+◌, ◌*◌, ◌≤◌, List, length}
 use Rattle.std.specs.Prelude.{Option as Maybe, Some, None}
 use Rattle.std.proofs.Math.Option.{Option, some, none}
 use Rattle.protocol.specs.declared.List.{List as ListSlot}
@@ -25,3 +25,24 @@ listed_of None = none
 unfoldable pub only : Item → ListSlot → ℕ → Option Listed
 only item list zero = some (record { item = item; list = list })
 only item list (suc l) = none
+
+-- the items of a list of one size stand within the frame, as decoding has checked: item n, and all
+abbrev pub FitsAt : List ℕ → ℕ → ℕ → Sort → Type 0
+FitsAt f start n S.Oid = start + n * 4 + 4 ≤ length f
+FitsAt f start n S.Format = start + n * 2 + 2 ≤ length f
+FitsAt f start n S.Value = Unit {0}
+FitsAt f start n S.Field = Unit {0}
+FitsAt f start n S.ErrorField = Unit {0}
+FitsAt f start n S.Pair = Unit {0}
+
+abbrev pub FitsSort : List ℕ → ListSlot → Sort → Type 0
+FitsSort f l S.Oid = l.start + l.count * 4 ≤ length f
+FitsSort f l S.Format = l.start + l.count * 2 ≤ length f
+FitsSort f l S.Value = Unit {0}
+FitsSort f l S.Field = Unit {0}
+FitsSort f l S.ErrorField = Unit {0}
+FitsSort f l S.Pair = Unit {0}
+
+abbrev pub Fits : List ℕ → Maybe (Sort × ListSlot) → Type 0
+Fits f (Some (sort, list)) = FitsSort f list sort
+Fits f None = Unit {0}
