@@ -282,16 +282,16 @@ pub fn put_byte(out: &mut [u8], at: usize, x: u8) -> usize
     put_block(out, at, [x])
 }
 
-pub fn put_half(out: &mut [u8], at: usize, x: u16) -> usize
-    ensures { Put true out.old at (be 2 x) 2 out.new result }
+pub fn put_half(out: &mut [u8], at: usize, half: u16) -> usize
+    ensures { Put true out.old at (be 2 half) 2 out.new result }
 {
-    put_block(out, at, x.to_be_bytes())
+    put_block(out, at, half.to_be_bytes())
 }
 
-pub fn put_word(out: &mut [u8], at: usize, x: u32) -> usize
-    ensures { Put true out.old at (be 4 x) 4 out.new result }
+pub fn put_word(out: &mut [u8], at: usize, word: u32) -> usize
+    ensures { Put true out.old at (be 4 word) 4 out.new result }
 {
-    put_block(out, at, x.to_be_bytes())
+    put_block(out, at, word.to_be_bytes())
 }
 
 // A value: its length, as the bits x, and its bytes.
