@@ -5,6 +5,7 @@ use mathlib.Core.Option.{some}
 use mathlib.Core.Path.{◌≡◌, refl, ap}
 use native.Mathlib.Omega.{arith}
 use lib.ListN.{length, get_or}
+use borrow.Author.Tests.{lt-ltb, le-ltb}
 use Rattle.protocol.specs.Kinds.{Mode, modes, find, frontend, backend, cancel, tls_answer, gss_answer, first_packet}
 use Rattle.protocol.specs.Told.{mode_number}
 use Rattle.protocol.specs.declared.mode.Mode.TheVariants as M
@@ -40,6 +41,15 @@ named_by s M.CancelRequest h b e = named s cancel 50 h (omega arith) refl
 named_by s M.TlsAnswer h b e = named s tls_answer 51 h (omega arith) refl
 named_by s M.GssAnswer h b e = named s gss_answer 52 h (omega arith) refl
 named_by s M.FirstPacket h b e = named s first_packet 53 h (omega arith) refl
+
+-- by how many bytes follow it
+pub opened_by : (s : List ℕ) (m : Given) → 1 ≤ length s → get_or s 0 0 < 256 → mode_number m ≡ (get_or s 0 0 + 208) % 256 → length s - 1 ≤ 65536 → O.Mode (mode_number m) ≡ opening_of s
+unfolding sized
+opened_by s m h b e few = rw (le-ltb 65536 (length s - 1) few) at (named_by s m h b e)
+
+pub oversize_by : (s : List ℕ) (m : Given) → 1 ≤ length s → get_or s 0 0 < 256 → mode_number m ≡ (get_or s 0 0 + 208) % 256 → 65536 < length s - 1 → O.Oversize ≡ opening_of s
+unfolding sized
+oversize_by s m h b e many = rw (lt-ltb 65536 (length s - 1) many) at (named_by s m h b e)
 
 -- a mode as the code's number
 pub number_is : (m : Given) → tag_of GivenType.the_type m ≡ mode_number m
