@@ -1,7 +1,14 @@
 -- `host_parts::reading::tusweram_value` meets its contract: what the reader answers, laid out.
-use mathlib.Core.Path.{ap, ◌∙◌}
+use Rattle.std.specs.Prelude.{ℕ, List}
+use mathlib.Core.Path.{◌≡◌, ap, ◌∙◌}
+use Rattle.protocol.specs.Reading.{bad}
+use Rattle.host_layout.specs.LaidOut.{refused_out}
 use Rattle.host_parts.specs.Reads.{value_out}
 use Rattle.host_parts.proofs.reading.tusweram_value.Goals as goal
+
+refused_as : {out : List ℕ} (number place : ℕ) → out ≡ refused_out 16 number place → out ≡ value_out (bad number place)
+unfolding value_out
+refused_as number place e = e
 
 pub returns-in-Ok-Some-default : goal.returns-in-Ok-Some-default
 unfolding value_out
@@ -16,5 +23,4 @@ returns-in-Ok-None-default c =
     c.none.ensures ∙ ap value_out read
 
 pub returns-in-Err : goal.returns-in-Err
-unfolding value_out
-returns-in-Err c = c.refusal.ensures ∙ ap value_out c.in-Err.ensures
+returns-in-Err c = refused_as _ _ c.refusal.ensures ∙ ap value_out c.in-Err.ensures
