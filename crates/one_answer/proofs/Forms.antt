@@ -1,9 +1,10 @@
 -- A contract of each form leaves one answer, and one final buffer.
-use Prim.Native.Nat.{ℕ, zero, suc, ◌+◌}
+use Prim.Native.Nat.{ℕ, zero, suc, ◌+◌, ◌≤◌}
 use mathlib.Core.Bool.{Bool, true, false, ◌&&◌}
 use mathlib.Core.List.{List, [], ◌∷◌}
 use mathlib.Core.Option.{Option, some, none}
 use mathlib.Core.Path.{◌≡◌, ap, refl, sym, ◌∙◌}
+use native.Mathlib.Omega.{arith}
 use lib.Dec.{leb}
 use lib.ListN.{length, take}
 use Rattle.std.specs.Prelude.{Result, Ok, Err}
@@ -54,7 +55,7 @@ use Rattle.reader.specs.RowAnswer.{Row}
 use Rattle.row_builder.specs.Building.{built}
 use Rattle.row_builder.specs.Built.{Built}
 use Rattle.row_builder.specs.declared.Row.{Row as Stored}
-use Rattle.one_answer.specs.Forms.{Tells, ByDefinition, WithBuffer, AnswersTell, StepsTell, HeadersTell, ItemsTell, ListingTells, BuildersTell, ToldWithBuffer, Frames, Encoders, HostEncoders, Writers, Pages, Readers, WholeRows, HostRows, HostBuilders}
+use Rattle.one_answer.specs.Forms.{Tells, ByDefinition, WithBuffer, AnswersTell, StepsTell, HeadersTell, ItemsTell, ListingTells, BuildersTell, ToldWithBuffer, Modes, Frames, Encoders, HostEncoders, Writers, Pages, Readers, WholeRows, HostRows, HostBuilders}
 
 -- ---- a step's answer is told by what it reads
 
@@ -299,6 +300,22 @@ with_buffer A B definition left r s x y p q =
 
 pub told_with_buffer : ToldWithBuffer
 told_with_buffer A B C set definition left tells r s x y p q = (tells definition r s p.0 q.0, p.1 ∙ ap left (p.0 ∙ sym q.0) ∙ sym q.1)
+
+most : (m : Mode) → mode_number m ≤ 5
+most M.Frontend = omega arith
+most M.Backend = omega arith
+most M.CancelRequest = omega arith
+most M.TlsAnswer = omega arith
+most M.GssAnswer = omega arith
+most M.FirstPacket = omega arith
+
+pub modes : Modes
+modes n (Ok a) (Ok b) p q = ap Ok (told_back mode_number mode_back mode_again n a b p q)
+modes n (Ok a) (Err e) p q = absurd (omega (arith, most a, p, q.0))
+modes n (Err d) (Ok b) p q = absurd (omega (arith, most b, q, p.0))
+modes n (Err d) (Err e) p q =
+    let same = p.1 ∙ sym q.1 in
+    ap Err (λ j. record { 0 = same j })
 
 -- ---- records of promises
 

@@ -1,12 +1,15 @@
 -- A contract leaves one answer: what it says at two answers, and at two final buffers, makes them equal. This is said of each form that a contract
 -- has, for whatever stands in it; docs/CONTRACTS.md, "One answer", tells which functions have which form.
--- The exception: of a returned part (`decode::part`, `element::value_or`) a contract sees the contents alone.
-use Rattle.std.specs.Prelude.{ℕ, Bool, List, ◌≡◌, ℤ, Result, MatchResult}
+-- The exception: of a returned part (`decode::part`, `element::value_or`, and the frame of `envelope::typed` and `untyped`, which are under `Frames`) a contract sees
+-- the contents alone.
+use Rattle.std.specs.Prelude.{ℕ, Bool, List, ◌≡◌, ◌<◌, ℤ, Result, MatchResult}
 use Rattle.std.proofs.Math.Option.{Option}
 use Rattle.std.specs.Borrow.{Bor}
 use Rattle.protocol.specs.declared.List.{List as ListSlot}
 use Rattle.protocol.specs.declared.Message.{Message}
 use Rattle.protocol.specs.declared.Span.{Span}
+use Rattle.protocol.specs.declared.mode.Mode.{Mode as Given}
+use Rattle.protocol.specs.declared.mode.UnknownMode.{UnknownMode}
 use Rattle.protocol.specs.declared.refusal.Refused.{Refused}
 use Rattle.protocol.specs.declared.refusal.Unread.{Unread}
 use Rattle.protocol.specs.Encode.{Encodes}
@@ -100,6 +103,10 @@ abbrev pub ToldWithBuffer : Type 1
 ToldWithBuffer =
     (A B C : Type 0) (set : A → B) (definition : B) (left : B → C) → Tells set
     → DeterminesBoth (λ (r : A) (x : C). (set r ≡ definition) × (x ≡ left (set r)))
+
+-- the mode with the number n, or that none has it
+abbrev pub Modes : Type 0
+Modes = (n : ℕ) → Determines (λ (r : Result Given UnknownMode). MatchResult r (λ m. mode_number m ≡ n) (λ e. (5 < n) × (e.0 ≡ n)))
 
 -- ---- records of promises
 
