@@ -1,5 +1,5 @@
 // Cases in text: the lines of an input, and the bytes of a line in hexadecimal digits.
-ghost use Rattle.std.specs.Prelude.{◌≤◌, ◌-◌, IfSome, min, length};
+ghost use Rattle.std.specs.Prelude.{◌≡◌, ◌≤◌, ◌-◌, IfSome, drop, length, min};
 ghost use Rattle.std.specs.Iterator.{at_most};
 
 // Where the line that begins at `start` ends; from the input's end on, there.
@@ -96,7 +96,10 @@ fn number_in(word: &[u8]) -> usize {
         })
 }
 
-pub fn read_head(line: &[u8]) -> Head<'_> {
+pub fn read_head(line: &[u8]) -> Head<'_>
+    ensures within { length result.digits.now ≤ length line.now }
+    ensures behind { result.digits.now ≡ drop (length line.now - length result.digits.now) line.now }
+{
     let end = line
         .iter()
         .position(|letter| *letter == b':')

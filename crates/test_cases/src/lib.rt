@@ -5,7 +5,7 @@
 pub mod case;
 pub mod shown;
 
-ghost use Rattle.std.specs.Prelude.{◌≡◌, length};
+ghost use Rattle.std.specs.Prelude.{◌≡◌, ◌≤◌, IfOk, length};
 
 use case::Lines;
 use std::fmt::Display;
@@ -52,7 +52,9 @@ impl Output {
 
 // Standard input up to its end, put at the start of `room`; of a longer one, as much as there is room for. It may arrive in pieces.
 // A loop over `read`, since the library's read_to_end wants a heap.
-pub fn read_input(rt: HostRuntime, room: &mut [u8]) -> io::Result<&[u8]> {
+pub fn read_input(rt: HostRuntime, room: &mut [u8]) -> io::Result<&[u8]>
+    ensures { IfOk result (λ part. length part.now ≤ length room.old) }
+{
     let mut input = rt.stdin();
     let mut count: usize = 0;
     while count < room.len() {
