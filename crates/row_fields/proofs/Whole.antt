@@ -8,18 +8,21 @@ use native.Mathlib.Omega.{arith}
 use borrow.Author.Tests.{leb-true, le-leb}
 use lib.Dec.{leb}
 use lib.ListN.{length, take, drop, length-append}
+use Rattle.std.specs.Prelude.{Result, Ok, Err}
 use Rattle.protocol.specs.declared.Rules.{Rules}
 use Rattle.protocol.specs.declared.data.FieldDescription.{FieldDescription}
+use Rattle.protocol.specs.declared.refusal.Refused.{Refused}
 use Rattle.protocol.specs.Bytes.{be, no_zero}
 use Rattle.protocol.specs.Each.{bytes_of_each, able_each}
 use Rattle.protocol.specs.Encode.{one_before, row_field_given, row_fields_given}
 use Rattle.protocol.specs.Fields.{ItemContent, atom_bytes, atom_able, item_bytes, item_able, items_bytes, items_able}
 use Rattle.protocol.specs.Kinds.{row_field}
+use Rattle.protocol.specs.Told.{encoded}
 use Rattle.protocol.proofs.Basics.{and_left, and_right}
 use Rattle.writers.specs.Writing.{largest, write}
 use Rattle.writers.proofs.Laws.{write_append, length-write}
 use Rattle.row_fields.specs.declared.Pass.{Pass}
-use Rattle.row_fields.specs.Passes.{passed, named, after, step_pass, step_out, all_pass, all_out}
+use Rattle.row_fields.specs.Passes.{passed, named, after, step_pass, step_out, all_pass, all_out, told, writing_pass}
 use Rattle.row_fields.proofs.Fields.{part_length, inside, kept}
 
 -- ---- the content
@@ -144,3 +147,11 @@ all_written (f ∷ fs) run out c w e h l =
     let later = all_written fs run (write out c.at x) (step_pass c f run) w (and_right (named f run) e) (omega (arith, long, at, n)) (omega (arith, long)) in
     ap (λ (o : List ℕ). all_out fs run o (step_pass c f run)) (step_written c f run out w ok (omega (arith, at, n)))
     ∙ later ∙ ap (λ (i : ℕ). write (write out c.at x) i rest) at ∙ write_append out c.at x rest
+
+-- ---- the pass that writes, at its start
+
+-- it does not ask why there is no number: a refusal told by its number and place begins the same pass
+pub told_as_encoded : (r : Result ℕ Refused) → writing_pass (told r) ≡ writing_pass (encoded r)
+unfolding writing_pass
+told_as_encoded (Ok n) = refl
+told_as_encoded (Err e) = refl
